@@ -1,0 +1,45 @@
+-- A State and what stands in it as lists; a call on a state.
+use mathlib.Core.Path.{_≡_, refl, sym, ap, _∙_}
+use mathlib.Core.Bool.{Bool, true, false, not}
+use mathlib.Core.List.{List, [], _∷_, map}
+use Prim.Native.Nat.{ℕ}
+use Rattle.drr.specs.declared.Row.{Row}
+use Rattle.drr.specs.declared.Table.{Table}
+use Rattle.drr.specs.declared.Line.{Line as StoredLine}
+use Rattle.drr.specs.declared.State.{State}
+use Rattle.drr.specs.State.{Line, lineOf, cellsIn, rowsFrom, lineIn, stateFrom}
+use Rattle.drr.specs.Sound.{soundState}
+use Rattle.drr.specs.Answers.{Answer, Outcome, outcome, reply, guarded}
+use Rattle.drr.proofs.Bools.{refuted, passed}
+
+pub cells-back : (cells : List (List ℕ)) → cellsIn (rowsFrom cells) ≡ cells
+cells-back [] = refl
+cells-back (x ∷ xs) = ap (λ (r : List (List ℕ)). x ∷ r) (cells-back xs)
+
+pub rows-back : (rows : List Row) → rowsFrom (cellsIn rows) ≡ rows
+rows-back [] = refl
+rows-back (x ∷ xs) = ap (λ (r : List Row). x ∷ r) (rows-back xs)
+
+-- a line taken apart, with its rows as cells
+pub line-apart : (l : StoredLine) (cells : List (List ℕ)) → cells ≡ cellsIn (l .rows) →
+    lineOf (l .counts) (l .deficits) cells (record { place = l .place; opened = l .opened }) ≡ lineIn l
+line-apart l cells is = rw is
+
+-- a line put together
+pub line-whole : (cs ds : List ℕ) (cells : List (List ℕ)) (p : ℕ) (o : Bool) (rows : List Row) → rows ≡ rowsFrom cells →
+    lineIn (record { deficits = ds; counts = cs; place = p; opened = o; rows = rows }) ≡ lineOf cs ds cells (record { place = p; opened = o })
+line-whole cs ds cells p o rows is = rw (is, cells-back cells)
+
+-- the state made of the line in a stored line is the state with that line
+pub state-back : (T : Table) (l : StoredLine) → stateFrom T (lineIn l) ≡ record { table = T; line = l }
+state-back T l = rw (rows-back (l .rows))
+
+-- r is the test's answer
+module _ (s : State) (unsound : Answer) (o : Outcome) (r : Bool) (told : r ≡ soundState s) where
+  pub refuses : not r ≡ true → reply unsound s ≡ guarded s unsound o
+  unfolding guarded
+  refuses bad = rw (refuted told bad)
+
+  pub answers : not r ≡ false → (a : Answer) (l : StoredLine) → outcome a (lineIn l) ≡ o → reply a (record { table = s .table; line = l }) ≡ guarded s unsound o
+  unfolding guarded
+  answers fine a l e = rw (passed told fine) (ap (λ (t : State). reply a t) (sym (state-back (s .table) l)) ∙ ap (λ (z : Outcome). reply (z .answer) (stateFrom (s .table) (z .line))) e)

@@ -1,0 +1,92 @@
+-- What document 01 gives as the answer of a call: for each case of an enum its refusal number and its other numbers.
+use Prim.Native.Nat.{ℕ}
+use mathlib.Core.Bool.{Bool, true, false, cond}
+use mathlib.Core.List.{List, [], _∷_}
+use Rattle.drr.specs.declared.State.{State}
+use Rattle.drr.specs.declared.Refusal.{Refusal}
+use Rattle.drr.specs.declared.Refusal.the-variants.{UnknownFlow, NoLength, OverMaximum, RowFull, FlowCount, QuantumRange, MaximumRange, NotSound}
+use Rattle.drr.specs.declared.PickAnswer.{PickAnswer}
+use Rattle.drr.specs.declared.PickAnswer.the-variants as picks
+use Rattle.drr.specs.declared.ArrivalAnswer.{ArrivalAnswer}
+use Rattle.drr.specs.declared.ArrivalAnswer.the-variants as arrivals
+use Rattle.drr.specs.declared.SetupAnswer.{SetupAnswer}
+use Rattle.drr.specs.declared.SetupAnswer.the-variants as setups
+use Rattle.drr.specs.State.{Line, stateFrom}
+use Rattle.drr.specs.Sound.{soundState}
+
+-- "Refusal numbers"
+abbrev pub numberOf : Refusal → ℕ
+numberOf UnknownFlow = 1
+numberOf NoLength = 2
+numberOf OverMaximum = 3
+numberOf RowFull = 4
+numberOf FlowCount = 5
+numberOf QuantumRange = 6
+numberOf MaximumRange = 7
+numberOf NotSound = 8
+
+-- an answer: its refusal number, 0 where nothing is refused, and its other numbers in the document's order
+pub record Answer : Type 0 where
+  pub refusal : ℕ
+  pub numbers : List ℕ
+
+abbrev pub answer : ℕ → List ℕ → Answer
+answer refusal numbers = record { refusal = refusal; numbers = numbers }
+
+-- "A pick answers either idle, or sent with flow, length, deficit after it and the number of visits opened in this pick."
+abbrev pub idle : Answer
+idle = answer 0 []
+
+abbrev pub sentAs : ℕ → ℕ → ℕ → ℕ → Answer
+sentAs flow length deficit visits = answer 0 (flow ∷ length ∷ deficit ∷ visits ∷ [])
+
+-- "Beside a refusal every other number of the answer, state and place apart, is 0."
+abbrev pub pickRefused : ℕ → Answer
+pickRefused number = answer number (0 ∷ 0 ∷ 0 ∷ 0 ∷ [])
+
+abbrev pub pickPaper : PickAnswer → Answer
+pickPaper picks.Idle = idle
+pickPaper (picks.Sent flow length deficit visits) = sentAs flow length deficit visits
+pickPaper (picks.Refused why) = pickRefused (numberOf why)
+
+-- an arrival answers no number but a refusal's
+abbrev pub accepted : Answer
+accepted = answer 0 []
+
+abbrev pub arrivalRefused : ℕ → Answer
+arrivalRefused number = answer number []
+
+abbrev pub arrivalPaper : ArrivalAnswer → Answer
+arrivalPaper arrivals.Accepted = accepted
+arrivalPaper (arrivals.Refused why) = arrivalRefused (numberOf why)
+
+-- setup answers the place of the flow at fault, else 0
+abbrev pub made : Answer
+made = answer 0 (0 ∷ [])
+
+abbrev pub setupRefused : ℕ → ℕ → Answer
+setupRefused number place = answer number (place ∷ [])
+
+abbrev pub setupPaper : SetupAnswer → Answer
+setupPaper setups.Made = made
+setupPaper (setups.Refused why place) = setupRefused (numberOf why) place
+
+-- an answer beside the line after the call
+pub record Outcome : Type 0 where
+  pub answer : Answer
+  pub line : Line
+
+abbrev pub outcome : Answer → Line → Outcome
+outcome a l = record { answer = a; line = l }
+
+-- an answer beside the state after the call
+pub record Reply : Type 0 where
+  pub answer : Answer
+  pub state : State
+
+abbrev pub reply : Answer → State → Reply
+reply a s = record { answer = a; state = s }
+
+-- a call on a state: refused by 8 where it is not sound, and handed back as it came; else the outcome's answer, and the state with its line
+unfoldable pub guarded : State → Answer → Outcome → Reply
+guarded s unsound o = cond (soundState s) (reply (o .answer) (stateFrom (s .table) (o .line))) (reply unsound s)

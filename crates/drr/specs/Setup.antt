@@ -1,0 +1,53 @@
+-- "Setup takes a lent list of flow records, each a quantum and a maximum, and makes a fresh state."
+use Prim.Native.Nat.{ℕ, zero, suc, _+_, min}
+use mathlib.Core.Bool.{Bool, true, false, cond, not, _||_}
+use mathlib.Core.List.{List, [], _∷_}
+use lib.Dec.{ltb, eqb}
+use lib.ListN.{length, getD, set, replicate}
+use Rattle.drr.specs.declared.flows.FlowRecord.{FlowRecord}
+use Rattle.drr.specs.declared.flows.Copied.{Copied}
+use Rattle.drr.specs.declared.Table.{Table}
+use Rattle.drr.specs.State.{tableOf, freshState, emptyTable}
+use Rattle.drr.specs.Sound.{withinb}
+use Rattle.drr.specs.Answers.{Answer, made, setupRefused, Reply, reply}
+
+-- k cells: the number p of the first k records, and zeros after them
+abbrev pub cells : (FlowRecord → ℕ) → ℕ → List FlowRecord → List ℕ
+cells p zero xs = []
+cells p (suc k) [] = 0 ∷ cells p k []
+cells p (suc k) (x ∷ xs) = p x ∷ cells p k xs
+
+abbrev pub tableFor : List FlowRecord → Table
+tableFor xs = tableOf (length xs) (cells (λ r. r .quantum) 16 xs) (cells (λ r. r .maximum) 16 xs)
+
+-- "flow by flow 6 before 7", from the flow f on
+abbrev pub flowsAnswer : ℕ → List FlowRecord → Answer
+flowsAnswer f [] = made
+flowsAnswer f (x ∷ xs) =
+    cond (not (withinb 1 65535 (x .quantum))) (setupRefused 6 f)
+    (cond (not (withinb 1 9216 (x .maximum))) (setupRefused 7 f)
+    (flowsAnswer (f + 1) xs))
+
+-- "flow list of 0 or more than 16", first
+unfoldable pub setupAnswer : List FlowRecord → Answer
+setupAnswer xs = cond (eqb (length xs) 0 || ltb 16 (length xs)) (setupRefused 5 0) (flowsAnswer 0 xs)
+
+-- a refusal "gives the empty table"
+unfoldable pub setupReply : List FlowRecord → Reply
+setupReply xs =
+    cond (eqb (setupAnswer xs .refusal) 0) (reply (setupAnswer xs) (freshState (tableFor xs))) (reply (setupAnswer xs) emptyTable)
+
+-- the records that stand in two arrays, `count` of them from the flow f on
+abbrev pub recordsFrom : List ℕ → List ℕ → ℕ → ℕ → List FlowRecord
+recordsFrom quanta maxima f zero = []
+recordsFrom quanta maxima f (suc count) =
+    record { quantum = getD quanta f 0; maximum = getD maxima f 0 } ∷ recordsFrom quanta maxima (f + 1) count
+
+-- ---- the copying of a lent list into two arrays, record by record
+abbrev pub startedOf : ℕ → Copied
+startedOf count =
+    record { quanta = replicate 16 0; maxima = replicate 16 0; at = 0; todo = min count 16; count = count }
+
+abbrev pub putOf : Copied → FlowRecord → Copied
+putOf c f =
+    record { quanta = set (c .quanta) (c .at) (f .quantum); maxima = set (c .maxima) (c .at) (f .maximum); at = c .at + 1; todo = c .todo; count = c .count }

@@ -1,0 +1,64 @@
+-- "A state is sound when": the test, clause by clause. Facts.antt has the same as facts.
+use Prim.Native.Nat.{ℕ, suc, zero}
+use mathlib.Core.Bool.{Bool, true, false, not, _&&_, _||_}
+use lib.Dec.{ltb, leb, eqb}
+use lib.ListN.{getD}
+use Rattle.drr.specs.declared.Table.{Table}
+use Rattle.drr.specs.declared.State.{State}
+use Rattle.drr.specs.State.{Line, quantumOf, maximumOf, deficitOf, waitingOf, rowOf, oldest, charge, lineIn}
+
+-- the test p passes at each number below k
+unfoldable pub all : ℕ → (ℕ → Bool) → Bool
+all zero p = true
+all (suc k) p = all k p && p k
+
+-- x is least to most
+abbrev pub withinb : ℕ → ℕ → ℕ → Bool
+withinb least most x = leb least x && leb x most
+
+-- "n is 0 to 16; place is below n, or 0 and closed if n is 0"
+abbrev pub headb : ℕ → ℕ → Bool → Bool
+headb n place opened = leb n 16 && (ltb place n || (eqb n 0 && eqb place 0 && not opened))
+
+-- "quanta, maxima, waiting counts .. are in range"
+abbrev pub rangeb : ℕ → ℕ → ℕ → Bool
+rangeb quantum maximum count = withinb 1 65535 quantum && withinb 1 9216 maximum && leb count 32
+
+-- "each waiting length is 1 to its flow's maximum"; "unused parts are zero"
+abbrev pub cellb : ℕ → ℕ → ℕ → ℕ → Bool
+cellb k count maximum length = (ltb k count && withinb 1 maximum length) || (not (ltb k count) && eqb length 0)
+
+-- "a flow without an open visit has deficit 0 if empty, otherwise a deficit below its oldest length; the flow with the open visit has a deficit below its quantum"
+abbrev pub creditb : Bool → ℕ → ℕ → ℕ → ℕ → Bool
+creditb visited deficit quantum count oldest =
+    (visited && ltb deficit quantum)
+    || (not visited && ((eqb count 0 && eqb deficit 0) || (not (eqb count 0) && ltb deficit (charge oldest))))
+
+-- "unused parts are zero"
+abbrev pub unusedb : ℕ → ℕ → ℕ → ℕ → Bool
+unusedb quantum maximum deficit count = eqb quantum 0 && eqb maximum 0 && eqb deficit 0 && eqb count 0
+
+-- the numbers of a flow that is in use, or not
+abbrev pub numbersb : Bool → Bool → ℕ → ℕ → ℕ → ℕ → ℕ → Bool
+numbersb used visited quantum maximum deficit count oldest =
+    (used && (rangeb quantum maximum count && creditb visited deficit quantum count oldest))
+    || (not used && unusedb quantum maximum deficit count)
+
+-- whether the visit to flow f is open
+abbrev pub visited : Line → ℕ → Bool
+visited l f = l .opened && eqb (l .place) f
+
+-- cell k of flow f
+unfoldable pub cellsb : Table → Line → ℕ → ℕ → Bool
+cellsb T l f k = cellb k (waitingOf l f) (maximumOf T f) (getD (rowOf l f) k 0)
+
+unfoldable pub flowb : Table → Line → ℕ → Bool
+flowb T l f =
+    numbersb (ltb f (T .n)) (visited l f) (quantumOf T f) (maximumOf T f) (deficitOf l f) (waitingOf l f) (oldest l f)
+    && all 32 (cellsb T l f)
+
+unfoldable pub soundb : Table → Line → Bool
+soundb T l = headb (T .n) (l .place) (l .opened) && all 16 (flowb T l)
+
+abbrev pub soundState : State → Bool
+soundState s = soundb (s .table) (lineIn (s .line))

@@ -1,0 +1,110 @@
+-- "The table and its state": what a state holds, how it is read and written, and the fresh and the empty state.
+use mathlib.Core.Bool.{Bool, true, false, cond}
+use mathlib.Core.List.{List, [], _∷_, _++_, map}
+use Prim.Native.Nat.{ℕ, _+_, _-_}
+use lib.ListN.{getD, set, drop, replicate}
+use Rattle.drr.specs.declared.Table.{Table}
+use Rattle.drr.specs.declared.Row.{Row}
+use Rattle.drr.specs.declared.Line.{Line as StoredLine}
+use Rattle.drr.specs.declared.State.{State}
+use Rattle.drr.specs.declared.Spot.{Spot}
+
+-- "The state holds n, quanta, maxima": the table, which setup fixes
+abbrev pub tableOf : ℕ → List ℕ → List ℕ → Table
+tableOf n quanta maxima = record { n = n; quanta = quanta; maxima = maxima }
+
+-- "one deficit and one waiting count per flow, the place (flow visited last), whether its visit is open, and the waiting lengths as sixteen rows of thirty-two, oldest first": the line, which calls move
+pub record Line : Type 0 where
+  pub deficits : List ℕ
+  pub counts : List ℕ
+  pub rows : List (List ℕ)
+  pub place : ℕ
+  pub opened : Bool
+
+-- the line that stands in arrays
+abbrev pub lineOf : List ℕ → List ℕ → List (List ℕ) → Spot → Line
+lineOf counts deficits rows spot =
+    record { deficits = deficits; counts = counts; rows = rows; place = spot .place; opened = spot .opened }
+
+-- ---- reading: flow f's numbers
+abbrev pub quantumOf : Table → ℕ → ℕ
+quantumOf T f = getD (T .quanta) f 0
+
+abbrev pub maximumOf : Table → ℕ → ℕ
+maximumOf T f = getD (T .maxima) f 0
+
+abbrev pub deficitOf : Line → ℕ → ℕ
+deficitOf l f = getD (l .deficits) f 0
+
+abbrev pub waitingOf : Line → ℕ → ℕ
+waitingOf l f = getD (l .counts) f 0
+
+abbrev pub rowOf : Line → ℕ → List ℕ
+rowOf l f = getD (l .rows) f []
+
+-- the oldest length that waits in flow f
+abbrev pub oldest : Line → ℕ → ℕ
+oldest l f = getD (rowOf l f) 0 0
+
+-- "A packet's charge is its length in bytes as the arrival gives it."
+abbrev pub charge : ℕ → ℕ
+charge length = length
+
+-- what flow f's oldest packet is charged
+abbrev pub due : Line → ℕ → ℕ
+due l f = charge (oldest l f)
+
+-- ---- writing: every change of a line is made of these three
+abbrev pub withDeficit : Line → ℕ → ℕ → Line
+withDeficit l f d =
+    record { deficits = set (l .deficits) f d; counts = l .counts; rows = l .rows; place = l .place; opened = l .opened }
+
+abbrev pub withRow : Line → ℕ → ℕ → List ℕ → Line
+withRow l f count lengths =
+    record { deficits = l .deficits; counts = set (l .counts) f count; rows = set (l .rows) f lengths; place = l .place; opened = l .opened }
+
+abbrev pub withVisit : Line → ℕ → Bool → Line
+withVisit l f opened =
+    record { deficits = l .deficits; counts = l .counts; rows = l .rows; place = f; opened = opened }
+
+-- a row without its oldest length; "unused cells .. are zero", so the freed one is
+abbrev pub shiftedOf : List ℕ → List ℕ
+shiftedOf lengths = drop 1 lengths ++ 0 ∷ []
+
+-- ---- "Fresh: nothing waits, deficits 0, no visit open, place n-1."
+abbrev pub freshLine : ℕ → Line
+freshLine n =
+    record { deficits = replicate 16 0; counts = replicate 16 0; rows = replicate 16 (replicate 32 0); place = n - 1; opened = false }
+
+abbrev pub noFlows : Table
+noFlows = tableOf 0 (replicate 16 0) (replicate 16 0)
+
+-- ---- the State of the code: its rows as lists, and back
+abbrev pub lengthsOf : Row → List ℕ
+lengthsOf r = r .lengths
+
+abbrev pub rowFrom : List ℕ → Row
+rowFrom lengths = record { lengths = lengths }
+
+abbrev pub cellsIn : List Row → List (List ℕ)
+cellsIn rows = map lengthsOf rows
+
+abbrev pub rowsFrom : List (List ℕ) → List Row
+rowsFrom cells = map rowFrom cells
+
+abbrev pub lineIn : StoredLine → Line
+lineIn s =
+    record { deficits = s .deficits; counts = s .counts; rows = cellsIn (s .rows); place = s .place; opened = s .opened }
+
+abbrev pub stateFrom : Table → Line → State
+stateFrom T l = record {
+  table = T;
+  line = record { deficits = l .deficits; counts = l .counts; place = l .place; opened = l .opened; rows = rowsFrom (l .rows) };
+}
+
+abbrev pub freshState : Table → State
+freshState T = stateFrom T (freshLine (T .n))
+
+-- "The empty table is n = 0 with everything zero and closed."
+abbrev pub emptyTable : State
+emptyTable = freshState noFlows
