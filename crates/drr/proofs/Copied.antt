@@ -50,7 +50,7 @@ pub put-next : (xs : List FlowRecord) (i : ℕ) → i < length xs → putOf (cop
 put-next xs i l = simp (cells-at (λ r. r .quantum) xs i l, cells-at (λ r. r .maximum) xs i l)
 
 -- ---- the end: a list of at most w records stands whole in w cells
-cell-of : (p : FlowRecord → ℕ) (w i : ℕ) (xs : List FlowRecord) → i < w → i < length xs → getD (cells p w xs) i 0 ≡ p (getD xs i none)
+pub cell-of : (p : FlowRecord → ℕ) (w i : ℕ) (xs : List FlowRecord) → i < w → i < length xs → getD (cells p w xs) i 0 ≡ p (getD xs i none)
 cell-of p w i [] a b = absurd (not-suc-le-zero b)
 cell-of p zero i (x ∷ xs) a b = absurd (not-suc-le-zero a)
 cell-of p (suc w) zero (x ∷ xs) a b = refl

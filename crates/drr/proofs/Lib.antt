@@ -14,5 +14,8 @@ pub mod States
 pub mod Papers
 pub mod Setups
 pub mod Copied
+pub mod Keeps
 pub mod Plain
 pub mod Lent
+pub mod Calls
+pub mod Claims

@@ -34,6 +34,23 @@ line-whole cs ds cells p o rows is = rw (is, cells-back cells)
 pub state-back : (T : Table) (l : StoredLine) → stateFrom T (lineIn l) ≡ record { table = T; line = l }
 state-back T l = rw (rows-back (l .rows))
 
+-- and back: the line that stands in the state made of it
+pub line-back : (T : Table) (l : Line) → lineIn (stateFrom T l .line) ≡ l
+line-back T l = rw (cells-back (l .rows))
+
+-- two stored lines with one line in them are one
+pub line-one : (l m : StoredLine) → lineIn l ≡ lineIn m → l ≡ m
+line-one l m e =
+    let p = rows-back (l .rows) in
+    let q = rows-back (m .rows) in
+    λ i. record {
+      deficits = e i .deficits;
+      counts = e i .counts;
+      place = e i .place;
+      opened = e i .opened;
+      rows = (sym p ∙ ap (λ (k : Line). rowsFrom (k .rows)) e ∙ q) i;
+    }
+
 -- r is the test's answer
 module _ (s : State) (unsound : Answer) (o : Outcome) (r : Bool) (told : r ≡ soundState s) where
   pub refuses : not r ≡ true → reply unsound s ≡ guarded s unsound o
@@ -43,3 +60,12 @@ module _ (s : State) (unsound : Answer) (o : Outcome) (r : Bool) (told : r ≡ s
   pub answers : not r ≡ false → (a : Answer) (l : StoredLine) → outcome a (lineIn l) ≡ o → reply a (record { table = s .table; line = l }) ≡ guarded s unsound o
   unfolding guarded
   answers fine a l e = rw (passed told fine) (ap (λ (t : State). reply a t) (sym (state-back (s .table) l)) ∙ ap (λ (z : Outcome). reply (z .answer) (stateFrom (s .table) (z .line))) e)
+
+-- a call on a sound state, and on another
+pub guarded-sound : (s : State) (unsound : Answer) (o : Outcome) → soundState s ≡ true → guarded s unsound o ≡ reply (o .answer) (stateFrom (s .table) (o .line))
+unfolding guarded
+guarded-sound s unsound o e = rw e
+
+pub guarded-not : (s : State) (unsound : Answer) (o : Outcome) → soundState s ≡ false → guarded s unsound o ≡ reply unsound s
+unfolding guarded
+guarded-not s unsound o e = rw e

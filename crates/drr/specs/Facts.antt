@@ -6,7 +6,8 @@ use mathlib.Core.Bool.{Bool, true, false}
 use mathlib.Core.Logic.{_⊎_}
 use lib.ListN.{length, getD}
 use Rattle.drr.specs.declared.Table.{Table}
-use Rattle.drr.specs.State.{Line, quantumOf, maximumOf, deficitOf, waitingOf, rowOf, charge}
+use Rattle.drr.specs.declared.State.{State}
+use Rattle.drr.specs.State.{Line, quantumOf, maximumOf, deficitOf, waitingOf, rowOf, charge, lineIn}
 use Rattle.drr.specs.Sound.{visited}
 
 -- "a flow without an open visit has deficit 0 if empty, otherwise a deficit below its oldest length; the flow with the open visit has a deficit below its quantum"
@@ -55,3 +56,9 @@ pub record Sound (T : Table) (l : Line) : Type 0 where
   pub flows-few : T .n ≤ 16
   pub placed : (l .place < T .n) ⊎ ((T .n ≡ 0) × (l .place ≡ 0) × (l .opened ≡ false))
   pub flows : (f : ℕ) → f < 16 → Flow T l f
+
+abbrev pub SoundState : State → Type 0
+SoundState s = Sound (s .table) (lineIn (s .line))
+
+abbrev pub ShapedState : State → Type 0
+ShapedState s = Shaped (s .table) (lineIn (s .line))

@@ -201,7 +201,15 @@ pub fn pick_line(table: Table, line: Line) -> PickedLine
         place: line.place,
         opened: line.opened,
     };
-    let p = engine::pick_in(n, &quanta, &maxima, &mut counts, &mut deficits, &mut rows, spot);
+    let p = engine::pick_in(
+        n,
+        &quanta,
+        &maxima,
+        &mut counts,
+        &mut deficits,
+        &mut rows,
+        spot,
+    );
     let answer = p.answer;
     let after = p.spot;
     let back = rows_of(rows);

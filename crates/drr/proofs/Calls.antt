@@ -1,0 +1,109 @@
+-- Calls on a State: what they keep, what they hand back.
+use mathlib.Core.Path.{_≡_, refl, sym, ap, subst, subst⁻¹, _∙_}
+use mathlib.Core.Bool.{Bool, true, false, cond}
+use mathlib.Core.List.{List}
+use mathlib.Core.Logic.{⊎-elim}
+use Prim.Native.Nat.{ℕ, zero, suc, _+_}
+use native.Mathlib.Omega.{arith}
+use borrow.Author.Tests.{eqb-true, eqb-false}
+use lib.Dec.{leb, eqb}
+use Rattle.drr.specs.declared.Table.{Table}
+use Rattle.drr.specs.declared.State.{State}
+use Rattle.drr.specs.declared.flows.FlowRecord.{FlowRecord}
+use Rattle.drr.specs.declared.engine.Found.{Found}
+use Rattle.drr.specs.declared.engine.Found.the-variants.{At, Nothing}
+use Rattle.drr.specs.State.{Line, deficitOf, due, lineIn, stateFrom, freshLine, freshState, emptyTable}
+use Rattle.drr.specs.Sound.{soundState}
+use Rattle.drr.specs.Facts.{Sound, SoundState, ShapedState}
+use Rattle.drr.specs.Answers.{Answer, idle, Outcome, outcome, Reply, reply, pickRefused, guarded}
+use Rattle.drr.specs.Pick.{next, openAt, closed, emptied}
+use Rattle.drr.specs.Computed.{serve, turn, lookFor, enough, carryOn, readyb, pickAt, pickOf, pickReply}
+use Rattle.drr.specs.Setup.{tableFor, setupAnswer, setupReply}
+use Rattle.drr.proofs.Bools.{by-test, dec}
+use Rattle.drr.proofs.Facts.{sound-is, of-sound}
+use Rattle.drr.proofs.States.{state-back, line-back, guarded-sound, guarded-not}
+use Rattle.drr.proofs.Keeps.{Ranged, fresh-sound, no-flows-ranged, made-ranged, pick-keeps, idle-again}
+
+-- ---- the state made of a sound line is sound
+whole-sound : (T : Table) (l : Line) → Sound T l → SoundState (stateFrom T l)
+whole-sound T l ok = subst⁻¹ (Sound T) (line-back T l) ok
+
+pub fresh-state-sound : {T : Table} → Ranged T → SoundState (freshState T)
+fresh-state-sound {T} r = whole-sound T (freshLine (T .n)) (fresh-sound r)
+
+pub setup-keeps : (xs : List FlowRecord) → SoundState (setupReply xs .state)
+unfolding setupReply
+setup-keeps xs =
+    by-test (λ (z : Reply). SoundState (z .state)) (eqb (setupAnswer xs .refusal) 0)
+    (λ e. fresh-state-sound (made-ranged xs (eqb-true (setupAnswer xs .refusal) 0 e)))
+    (λ _. fresh-state-sound no-flows-ranged)
+
+pub setup-refused : (xs : List FlowRecord) → (setupReply xs .answer .refusal ≡ 0 → ⊥) → setupReply xs .state ≡ emptyTable
+unfolding setupReply
+setup-refused xs =
+    by-test (λ (z : Reply). (z .answer .refusal ≡ 0 → ⊥) → z .state ≡ emptyTable) (eqb (setupAnswer xs .refusal) 0)
+    (λ e no. absurd (no (eqb-true (setupAnswer xs .refusal) 0 e))) (λ _ _. refl)
+
+-- ---- a call that gives the outcome o on the state's line
+module _ (s : State) (unsound : Answer) (o : Outcome) where
+  pub call-sound : SoundState s → Sound (s .table) (o .line) → SoundState (guarded s unsound o .state)
+  call-sound ok next =
+      subst⁻¹ (λ (z : Reply). SoundState (z .state)) (guarded-sound s unsound o (of-sound (s .table) (lineIn (s .line)) ok)) (whole-sound (s .table) (o .line) next)
+
+  pub call-hands-back : ((o .answer .refusal ≡ 0 → ⊥) → o .line ≡ lineIn (s .line)) → (guarded s unsound o .answer .refusal ≡ 0 → ⊥) → guarded s unsound o .state ≡ s
+  unfolding guarded
+  call-hands-back same =
+      by-test (λ (z : Reply). (z .answer .refusal ≡ 0 → ⊥) → z .state ≡ s) (soundState s)
+      (λ _ no. ap (stateFrom (s .table)) (same no) ∙ state-back (s .table) (s .line)) (λ _ _. refl)
+
+-- ---- a pick on a line is never refused
+abbrev Fine : Outcome → Type 0
+Fine o = o .answer .refusal ≡ 0
+
+serve-fine : (b : Bool) (v : ℕ) (l : Line) (f : ℕ) (goto2 : Line → Outcome) → ((t : Line) → Fine (goto2 t)) → Fine (serve b v l f goto2)
+serve-fine true v l f goto2 h = refl
+serve-fine false v l f goto2 h = h (closed l)
+
+turn-fine : (T : Table) (v : ℕ) (l : Line) (o : Found) (goto2 : Line → Outcome) → ((t : Line) → Fine (goto2 t)) → Fine (turn T v l o goto2)
+turn-fine T v l Nothing goto2 h = refl
+turn-fine T v l (At f) goto2 h = serve-fine (leb (due l f) (deficitOf (openAt T l f) f)) (v + 1) (openAt T l f) f goto2 h
+
+look-fine : (T : Table) (k v : ℕ) (l : Line) → Fine (lookFor T k v l)
+unfolding lookFor
+look-fine T zero v l = refl
+look-fine T (suc k) v l = turn-fine T v l (next T l) (lookFor T k (v + 1)) (look-fine T k (v + 1))
+
+pub pick-fine : (T : Table) (l : Line) → Fine (pickOf T l)
+pick-fine T l = at-open (l .opened)
+  where
+    on-test : (b : Bool) → Fine (carryOn T b l)
+    on-test true = refl
+    on-test false = look-fine T enough 0 (closed (emptied l))
+
+    at-open : (b : Bool) → Fine (pickAt T b l)
+    at-open true = on-test (readyb l (l .place))
+    at-open false = look-fine T enough 0 l
+
+-- ---- a second idle pick
+pub idle-still : (s : State) → ShapedState s → pickReply s .answer ≡ idle → pickReply (pickReply s .state) ≡ reply idle (pickReply s .state)
+idle-still s shape is = ⊎-elim
+    (λ e. still (sound-is T l shape e) (guarded-sound s (pickRefused 8) (pickOf T l) e))
+    (λ e. let z = sym is ∙ ap (λ (z : Reply). z .answer) (guarded-not s (pickRefused 8) (pickOf T l) e) in
+    absurd (let y = ap (λ (a : Answer). a .refusal) z in omega arith))
+    (dec (soundState s))
+  where
+    T : Table
+    T = s .table
+
+    l : Line
+    l = lineIn (s .line)
+
+    still : Sound T l → pickReply s ≡ reply (pickOf T l .answer) (stateFrom T (pickOf T l .line)) → pickReply (pickReply s .state) ≡ reply idle (pickReply s .state)
+    still ok e =
+        let m = pickOf T l .line in
+        let idled : pickOf T l .answer ≡ idle = (sym (ap (λ (z : Reply). z .answer) e) ∙ is) in
+        let again : pickReply (stateFrom T m) ≡ reply idle (stateFrom T m) =
+        (guarded-sound (stateFrom T m) (pickRefused 8) _ (of-sound T _ (whole-sound T m (pick-keeps T l ok)))
+        ∙ ap (λ (k : Line). reply (pickOf T k .answer) (stateFrom T (pickOf T k .line))) (line-back T m)
+        ∙ ap (λ (o : Outcome). reply (o .answer) (stateFrom T (o .line))) (idle-again T l ok idled)) in
+        subst⁻¹ (λ (t : State). pickReply t ≡ reply idle t) (ap (λ (z : Reply). z .state) e) again

@@ -1,0 +1,131 @@
+-- What is proved of the scheduler beyond the functions' contracts: each claim as a statement, then the name of its proof.
+-- The contracts themselves stand in src/; each is an equation to a definition of specs/.
+use mathlib.Core.Path.{_≡_, sym, ap, _∙_}
+use mathlib.Core.Bool.{true}
+use mathlib.Core.List.{List, []}
+use mathlib.Core.Logic.{_↔_}
+use Prim.Native.Nat.{ℕ}
+use mir.Val.{Val}
+use denote.Laws.{Is}
+use Rattle.drr.specs.declared.Table.{Table}
+use Rattle.drr.specs.declared.State.{State}
+use Rattle.drr.specs.declared.Spot.{Spot}
+use Rattle.drr.specs.declared.Picked.{Picked}
+use Rattle.drr.specs.declared.Arrived.{Arrived}
+use Rattle.drr.specs.declared.PickedLine.{PickedLine}
+use Rattle.drr.specs.declared.ArrivedLine.{ArrivedLine}
+use Rattle.drr.specs.declared.PickAnswer.{PickAnswer}
+use Rattle.drr.specs.declared.ArrivalAnswer.{ArrivalAnswer}
+use Rattle.drr.specs.declared.SetupAnswer.{SetupAnswer}
+use Rattle.drr.specs.declared.flows.FlowRecord.{FlowRecord}
+use Rattle.drr.specs.declared.flows.Made.{Made}
+use Rattle.drr.specs.State.{Line, lineIn, emptyTable}
+use Rattle.drr.specs.Sound.{soundb}
+use Rattle.drr.specs.Facts.{Shaped, Sound, SoundState, ShapedState}
+use Rattle.drr.specs.Answers.{Answer, idle, pickPaper, arrivalPaper, setupPaper, Outcome, outcome, Reply, reply}
+use Rattle.drr.specs.Arrival.{arrivalOf, arrivalReply, Booked}
+use Rattle.drr.specs.Pick.{Picks}
+use Rattle.drr.specs.Computed.{pickOf, pickReply}
+use Rattle.drr.specs.Setup.{setupReply}
+use Rattle.drr.proofs.State as state
+use Rattle.drr.proofs.Facts.{sound-is, of-sound}
+use Rattle.drr.proofs.Shape.{shaped}
+use Rattle.drr.proofs.One.{pick-is, pick-only}
+use Rattle.drr.proofs.Papers as papers
+use Rattle.drr.proofs.States.{line-one}
+use Rattle.drr.proofs.Keeps.{no-flows-ranged, arrival-keeps, arrival-refused, pick-keeps}
+use Rattle.drr.proofs.Calls.{fresh-state-sound, setup-keeps, setup-refused, call-sound, call-hands-back, pick-fine, idle-still}
+
+-- ---- soundness, as a test and as facts
+-- every State that the code can hold has its arrays' lengths ..
+pub every-state-shaped : (s : State) (vs : List Val) → Is state.the-row s vs → ShapedState s
+every-state-shaped = shaped
+
+-- .. and with them the test is true exactly where the facts hold
+pub test-is-facts : (T : Table) (l : Line) → Shaped T l → (soundb T l ≡ true) ↔ Sound T l
+test-is-facts T l shape = (sound-is T l shape, of-sound T l)
+
+-- ---- the pick in its two forms: on every sound line the relation has the function's answer, and no other
+pub pick-has-one : (T : Table) (l : Line) → Sound T l → Picks T l (pickOf T l .answer) (pickOf T l .line)
+pick-has-one = pick-is
+
+pub pick-has-no-other : (T : Table) (l : Line) → Sound T l → (a : Answer) (t : Line) → Picks T l a t → outcome a t ≡ pickOf T l
+pick-has-no-other = pick-only
+
+-- ---- what is sound, and stays so
+pub empty-sound : SoundState emptyTable
+empty-sound = fresh-state-sound no-flows-ranged
+
+-- fresh where it is accepted, the empty table where it is refused
+pub setup-sound : (xs : List FlowRecord) → SoundState (setupReply xs .state)
+setup-sound = setup-keeps
+
+pub arrival-sound : (s : State) (f length : ℕ) → SoundState s → SoundState (arrivalReply s f length .state)
+arrival-sound s f length ok = call-sound s _ _ ok (arrival-keeps (s .table) (lineIn (s .line)) ok f length)
+
+pub pick-sound : (s : State) → SoundState s → SoundState (pickReply s .state)
+pick-sound s ok = call-sound s _ _ ok (pick-keeps (s .table) (lineIn (s .line)) ok)
+
+-- ---- a refused call hands the state back as it came, and a refused setup gives the empty table
+pub arrival-hands-back : (s : State) (f length : ℕ) → (arrivalReply s f length .answer .refusal ≡ 0 → ⊥) → arrivalReply s f length .state ≡ s
+arrival-hands-back s f length = call-hands-back s _ _ (arrival-refused (s .table) (lineIn (s .line)) f length)
+
+pub pick-hands-back : (s : State) → (pickReply s .answer .refusal ≡ 0 → ⊥) → pickReply s .state ≡ s
+pick-hands-back s = call-hands-back s _ _ (λ no. absurd (no (pick-fine (s .table) (lineIn (s .line)))))
+
+pub setup-gives-empty : (xs : List FlowRecord) → (setupReply xs .answer .refusal ≡ 0 → ⊥) → setupReply xs .state ≡ emptyTable
+setup-gives-empty = setup-refused
+
+-- ---- "Idle may close a visit; a second idle pick changes nothing."
+pub idle-twice : (s : State) → ShapedState s → pickReply s .answer ≡ idle → pickReply (pickReply s .state) ≡ reply idle (pickReply s .state)
+idle-twice = idle-still
+
+-- ---- two values of an enum never have the same paper answer
+pub pick-answers-apart : (a b : PickAnswer) → pickPaper a ≡ pickPaper b → a ≡ b
+pick-answers-apart = papers.pick-one
+
+pub arrival-answers-apart : (a b : ArrivalAnswer) → arrivalPaper a ≡ arrivalPaper b → a ≡ b
+arrival-answers-apart = papers.arrival-one
+
+pub setup-answers-apart : (a b : SetupAnswer) → setupPaper a ≡ setupPaper b → a ≡ b
+setup-answers-apart = papers.setup-one
+
+-- ---- no second answer, state or place meets a contract. (`refusal_number`, `sound`, `sound_line` and `engine::sound_in` promise an equation for the result itself.)
+pub one-pick : (s : State) (r t : Picked) →
+    reply (pickPaper (r .answer)) (r .state) ≡ pickReply s → reply (pickPaper (t .answer)) (t .state) ≡ pickReply s → r ≡ t
+one-pick s r t p q = let e = p ∙ sym q in λ i. record { answer = papers.pick-one (r .answer) (t .answer) (ap (λ (z : Reply). z .answer) e) i; state = e i .state }
+
+pub one-arrival : (s : State) (f length : ℕ) (r t : Arrived) →
+    reply (arrivalPaper (r .answer)) (r .state) ≡ arrivalReply s f length → reply (arrivalPaper (t .answer)) (t .state) ≡ arrivalReply s f length → r ≡ t
+one-arrival s f length r t p q = let e = p ∙ sym q in λ i. record { answer = papers.arrival-one (r .answer) (t .answer) (ap (λ (z : Reply). z .answer) e) i; state = e i .state }
+
+-- of `setup`, `setup_of` and `setup_first`
+pub one-setup : (xs : List FlowRecord) (r t : Made) →
+    reply (setupPaper (r .answer)) (r .state) ≡ setupReply xs → reply (setupPaper (t .answer)) (t .state) ≡ setupReply xs → r ≡ t
+one-setup xs r t p q = let e = p ∙ sym q in λ i. record { answer = papers.setup-one (r .answer) (t .answer) (ap (λ (z : Reply). z .answer) e) i; state = e i .state }
+
+pub one-pick-line : (T : Table) (l : Line) (r t : PickedLine) →
+    outcome (pickPaper (r .answer)) (lineIn (r .line)) ≡ pickOf T l → outcome (pickPaper (t .answer)) (lineIn (t .line)) ≡ pickOf T l → r ≡ t
+one-pick-line T l r t p q =
+    let e = p ∙ sym q in
+    λ i. record { answer = papers.pick-one (r .answer) (t .answer) (ap (λ (z : Outcome). z .answer) e) i; line = line-one (r .line) (t .line) (ap (λ (z : Outcome). z .line) e) i }
+
+pub one-arrival-line : (T : Table) (l : Line) (f length : ℕ) (r t : ArrivedLine) →
+    outcome (arrivalPaper (r .answer)) (lineIn (r .line)) ≡ arrivalOf T l f length → outcome (arrivalPaper (t .answer)) (lineIn (t .line)) ≡ arrivalOf T l f length → r ≡ t
+one-arrival-line T l f length r t p q =
+    let e = p ∙ sym q in
+    λ i. record { answer = papers.arrival-one (r .answer) (t .answer) (ap (λ (z : Outcome). z .answer) e) i; line = line-one (r .line) (t .line) (ap (λ (z : Outcome). z .line) e) i }
+
+-- of `engine::pick_in`: the answer, and the line in the arrays and the spot at exit
+pub one-pick-in : (T : Table) (l : Line) (a b : PickAnswer) (k m : Line) → outcome (pickPaper a) k ≡ pickOf T l → outcome (pickPaper b) m ≡ pickOf T l → (a ≡ b) × (k ≡ m)
+one-pick-in T l a b k m p q =
+    let e = p ∙ sym q in
+    (papers.pick-one a b (ap (λ (z : Outcome). z .answer) e), ap (λ (z : Outcome). z .line) e)
+
+-- of `engine::book`: the answer, and the counts and the rows at exit
+pub one-book : (n : ℕ) (maxima counts : List ℕ) (rows : List (List ℕ)) (f length : ℕ) (a b : ArrivalAnswer) (cs ds : List ℕ) (xs ys : List (List ℕ)) →
+    Booked n maxima counts rows f length (arrivalPaper a) cs xs → Booked n maxima counts rows f length (arrivalPaper b) ds ys → (a ≡ b) × (cs ≡ ds) × (xs ≡ ys)
+one-book n maxima counts rows f length a b cs ds xs ys p q =
+    let spot : Spot = record { place = 0; opened = true } in
+    let e = p [] [] spot ∙ sym (q [] [] spot) in
+    (papers.arrival-one a b (ap (λ (z : Outcome). z .answer) e), ap (λ (z : Outcome). z .line .counts) e, ap (λ (z : Outcome). z .line .rows) e)
