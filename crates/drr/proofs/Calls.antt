@@ -9,9 +9,9 @@ use borrow.Author.Tests.{eqb-true, eqb-false}
 use lib.Dec.{leb, eqb}
 use Rattle.drr.specs.declared.Table.{Table}
 use Rattle.drr.specs.declared.State.{State}
-use Rattle.drr.specs.declared.flows.FlowRecord.{FlowRecord}
-use Rattle.drr.specs.declared.engine.Found.{Found}
-use Rattle.drr.specs.declared.engine.Found.the-variants.{At, Nothing}
+use Rattle.drr.specs.declared.FlowRecord.{FlowRecord}
+use Rattle.drr.specs.declared.Found.{Found}
+use Rattle.drr.specs.declared.Found.the-variants.{At, Nothing}
 use Rattle.drr.specs.State.{Line, deficitOf, due, lineIn, stateFrom, freshLine, freshState, emptyTable}
 use Rattle.drr.specs.Sound.{soundState}
 use Rattle.drr.specs.Facts.{Sound, SoundState, ShapedState}
@@ -22,7 +22,8 @@ use Rattle.drr.specs.Setup.{tableFor, setupAnswer, setupReply}
 use Rattle.drr.proofs.Bools.{by-test, dec}
 use Rattle.drr.proofs.Facts.{sound-is, of-sound}
 use Rattle.drr.proofs.States.{state-back, line-back, guarded-sound, guarded-not}
-use Rattle.drr.proofs.Keeps.{Ranged, fresh-sound, no-flows-ranged, made-ranged, pick-keeps, idle-again}
+use Rattle.drr.proofs.Tables.{Ranged, fresh-sound, no-flows-ranged, made-ranged}
+use Rattle.drr.proofs.Keeps.{pick-keeps, idle-again}
 
 -- ---- the state made of a sound line is sound
 whole-sound : (T : Table) (l : Line) → Sound T l → SoundState (stateFrom T l)

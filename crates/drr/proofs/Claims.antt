@@ -17,8 +17,8 @@ use Rattle.drr.specs.declared.ArrivedLine.{ArrivedLine}
 use Rattle.drr.specs.declared.PickAnswer.{PickAnswer}
 use Rattle.drr.specs.declared.ArrivalAnswer.{ArrivalAnswer}
 use Rattle.drr.specs.declared.SetupAnswer.{SetupAnswer}
-use Rattle.drr.specs.declared.flows.FlowRecord.{FlowRecord}
-use Rattle.drr.specs.declared.flows.Made.{Made}
+use Rattle.drr.specs.declared.FlowRecord.{FlowRecord}
+use Rattle.drr.specs.declared.Made.{Made}
 use Rattle.drr.specs.State.{Line, lineIn, emptyTable}
 use Rattle.drr.specs.Sound.{soundb}
 use Rattle.drr.specs.Facts.{Shaped, Sound, SoundState, ShapedState}
@@ -33,7 +33,8 @@ use Rattle.drr.proofs.Shape.{shaped}
 use Rattle.drr.proofs.One.{pick-is, pick-only}
 use Rattle.drr.proofs.Papers as papers
 use Rattle.drr.proofs.States.{line-one}
-use Rattle.drr.proofs.Keeps.{no-flows-ranged, arrival-keeps, arrival-refused, pick-keeps}
+use Rattle.drr.proofs.Tables.{no-flows-ranged}
+use Rattle.drr.proofs.Keeps.{arrival-keeps, arrival-refused, pick-keeps}
 use Rattle.drr.proofs.Calls.{fresh-state-sound, setup-keeps, setup-refused, call-sound, call-hands-back, pick-fine, idle-still}
 
 -- ---- soundness, as a test and as facts

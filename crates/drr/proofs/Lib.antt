@@ -1,21 +1,14 @@
--- Laws that several proofs cite.
+-- Laws of the definitions. Claims.antt is the page to read.
 pub mod Bools
-pub mod Copies
 pub mod Search
-pub mod Tests
 pub mod Facts
-pub mod Sends
+pub mod Shape
 pub mod Steps
 pub mod Visits
 pub mod One
-pub mod Loop
-pub mod Shape
-pub mod States
-pub mod Papers
-pub mod Setups
-pub mod Copied
+pub mod Tables
 pub mod Keeps
-pub mod Plain
-pub mod Lent
+pub mod Papers
+pub mod States
 pub mod Calls
 pub mod Claims

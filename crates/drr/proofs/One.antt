@@ -6,8 +6,8 @@ use native.Mathlib.Omega.{arith}
 use borrow.Author.Tests.{leb-true, leb-false, ltb-true, ltb-false}
 use lib.Dec.{ltb, leb}
 use Rattle.drr.specs.declared.Table.{Table}
-use Rattle.drr.specs.declared.engine.Found.{Found}
-use Rattle.drr.specs.declared.engine.Found.the-variants.{At, Nothing}
+use Rattle.drr.specs.declared.Found.{Found}
+use Rattle.drr.specs.declared.Found.the-variants.{At, Nothing}
 use Rattle.drr.specs.State.{Line, deficitOf, waitingOf, oldest, due}
 use Rattle.drr.specs.Facts.{Sound}
 use Rattle.drr.specs.Answers.{Answer, sentAs, Outcome, outcome}

@@ -9,8 +9,8 @@ use borrow.Author.Tests.{lt-ltb, le-ltb, ltb-true}
 use lib.Dec.{ltb}
 use lib.ListN.{getD}
 use Rattle.drr.specs.Pick.{after, firstOf}
-use Rattle.drr.specs.declared.engine.Found.{Found}
-use Rattle.drr.specs.declared.engine.Found.the-variants.{At, Nothing}
+use Rattle.drr.specs.declared.Found.{Found}
+use Rattle.drr.specs.declared.Found.the-variants.{At, Nothing}
 use Rattle.drr.proofs.Bools.{by-test}
 
 pub first-here : (n : ℕ) (w : List ℕ) (k f : ℕ) → 0 < k → 0 < getD w (after n f) 0 → firstOf n w k f ≡ At (after n f)

@@ -11,11 +11,10 @@ use lib.Dec.{eqb}
 use lib.ListN.{length, getD, set, drop, length-set, length-append, length-drop, List·getD-eq-default}
 use lib.Seq.{getD-set-same, getD-set-other, set-set}
 use Rattle.drr.specs.declared.Table.{Table}
-use Rattle.drr.specs.declared.engine.Found.the-variants.{At}
+use Rattle.drr.specs.declared.Found.the-variants.{At}
 use Rattle.drr.specs.State.{Line, quantumOf, maximumOf, deficitOf, waitingOf, rowOf, oldest, charge, due, withDeficit, withRow, withVisit, shiftedOf}
 use Rattle.drr.specs.Sound.{visited}
 use Rattle.drr.specs.Facts.{Credit, FlowFacts, Flow, Shaped, Sound}
-use Rattle.drr.specs.Needs.{Bookable}
 use Rattle.drr.specs.Arrival.{put}
 use Rattle.drr.specs.Pick.{firstOf, next, openAt, closed, emptied, sent, Ready}
 use Rattle.drr.proofs.Bools.{apart, same?, below?}
@@ -88,9 +87,6 @@ module _ {T : Table} {f : ℕ} {v : Bool} {d c : ℕ} {row : List ℕ} (u : Flow
 
 pub sound-place : {T : Table} {l : Line} → Sound T l → l .place < 16
 sound-place ok = ⊎-elim (λ a. omega (arith, ok .flows-few)) (λ b. omega (arith, b .1)) (ok .placed)
-
-pub sound-bookable : {T : Table} {l : Line} → Sound T l → Bookable (T .n) (T .maxima)
-sound-bookable ok = record { flows-few = ok .flows-few; maxima-most = λ f q. ok .flows f (omega (arith, ok .flows-few)) .used q .maximum-most }
 
 -- ---- a line of which flow p alone is changed: its deficit, its row, or both
 module _ (T : Table) (l : Line) (ok : Sound T l) (p : ℕ) (in-table : p < T .n) where

@@ -10,7 +10,7 @@ use mathlib.Core.Path.{ap}
 use lib.Dec.{eqb}
 use lib.ListN.{length, getD, set, List·getD-eq-default}
 use Rattle.drr.specs.declared.Table.{Table}
-use Rattle.drr.specs.declared.engine.Found.the-variants.{At}
+use Rattle.drr.specs.declared.Found.the-variants.{At}
 use Rattle.drr.specs.State.{Line, quantumOf, deficitOf, waitingOf, due}
 use Rattle.drr.specs.Facts.{Sound}
 use Rattle.drr.specs.Pick.{next, openAt}

@@ -4,8 +4,8 @@ use Prim.Native.Nat.{ℕ, zero, suc, _+_}
 use lib.Dec.{ltb, leb}
 use Rattle.drr.specs.declared.Table.{Table}
 use Rattle.drr.specs.declared.State.{State}
-use Rattle.drr.specs.declared.engine.Found.{Found}
-use Rattle.drr.specs.declared.engine.Found.the-variants.{At, Nothing}
+use Rattle.drr.specs.declared.Found.{Found}
+use Rattle.drr.specs.declared.Found.the-variants.{At, Nothing}
 use Rattle.drr.specs.State.{Line, deficitOf, waitingOf, oldest, due, lineIn}
 use Rattle.drr.specs.Answers.{idle, sentAs, pickRefused, Outcome, outcome, Reply, guarded}
 use Rattle.drr.specs.Pick.{next, openAt, closed, emptied, sent}

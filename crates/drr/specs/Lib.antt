@@ -1,4 +1,4 @@
--- Document 01 as definitions, in its order. Facts.antt and Needs.antt hold what theorems and inner functions ask.
+-- Document 01 as definitions, in its order. Facts.antt has soundness once more, as facts.
 pub mod State
 pub mod Sound
 pub mod Facts
@@ -7,4 +7,3 @@ pub mod Arrival
 pub mod Pick
 pub mod Computed
 pub mod Setup
-pub mod Needs

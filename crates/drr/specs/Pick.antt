@@ -6,8 +6,8 @@ use Prim.Native.Nat.{ℕ, zero, suc, _+_, _-_, _≤_, _<_}
 use lib.Dec.{ltb}
 use lib.ListN.{getD}
 use Rattle.drr.specs.declared.Table.{Table}
-use Rattle.drr.specs.declared.engine.Found.{Found}
-use Rattle.drr.specs.declared.engine.Found.the-variants.{At, Nothing}
+use Rattle.drr.specs.declared.Found.{Found}
+use Rattle.drr.specs.declared.Found.the-variants.{At, Nothing}
 use Rattle.drr.specs.State.{Line, quantumOf, deficitOf, waitingOf, rowOf, oldest, due, withDeficit, withRow, withVisit, shiftedOf}
 use Rattle.drr.specs.Answers.{Answer, idle, sentAs}
 

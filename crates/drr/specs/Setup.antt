@@ -1,11 +1,10 @@
 -- "Setup takes a lent list of flow records, each a quantum and a maximum, and makes a fresh state."
-use Prim.Native.Nat.{ℕ, zero, suc, _+_, min}
+use Prim.Native.Nat.{ℕ, zero, suc, _+_}
 use mathlib.Core.Bool.{Bool, true, false, cond, not, _||_}
 use mathlib.Core.List.{List, [], _∷_}
 use lib.Dec.{ltb, eqb}
-use lib.ListN.{length, getD, set, replicate}
-use Rattle.drr.specs.declared.flows.FlowRecord.{FlowRecord}
-use Rattle.drr.specs.declared.flows.Copied.{Copied}
+use lib.ListN.{length, getD}
+use Rattle.drr.specs.declared.FlowRecord.{FlowRecord}
 use Rattle.drr.specs.declared.Table.{Table}
 use Rattle.drr.specs.State.{tableOf, freshState, emptyTable}
 use Rattle.drr.specs.Sound.{withinb}
@@ -42,12 +41,3 @@ abbrev pub recordsFrom : List ℕ → List ℕ → ℕ → ℕ → List FlowReco
 recordsFrom quanta maxima f zero = []
 recordsFrom quanta maxima f (suc count) =
     record { quantum = getD quanta f 0; maximum = getD maxima f 0 } ∷ recordsFrom quanta maxima (f + 1) count
-
--- ---- the copying of a lent list into two arrays, record by record
-abbrev pub startedOf : ℕ → Copied
-startedOf count =
-    record { quanta = replicate 16 0; maxima = replicate 16 0; at = 0; todo = min count 16; count = count }
-
-abbrev pub putOf : Copied → FlowRecord → Copied
-putOf c f =
-    record { quanta = set (c .quanta) (c .at) (f .quantum); maxima = set (c .maxima) (c .at) (f .maximum); at = c .at + 1; todo = c .todo; count = c .count }

@@ -1,0 +1,61 @@
+use native.Mathlib.Omega.{arith}
+use borrow.Author.Needs.{needs}
+use borrow.Author.Tests.{le-leb, lt-leb, lt-ltb, le-ltb, eq-eqb, ne-eqb}
+use Rattle.drr.specs.Arrival.{arrivalOf}
+use Rattle.engine.proofs.book.Statement.{statement}
+use Rattle.engine.proofs.book.Tie as tie
+
+returns : tie.Need-returns
+unfolding arrivalOf
+returns c = λ qs ds sp. simp (le-leb _ _ (c .if1 .taken))
+
+returns-2 : tie.Need-returns-2
+unfolding arrivalOf
+returns-2 c = λ qs ds sp. simp (lt-leb _ _ (c .before .if1 .left), eq-eqb _ _ (c .if2 .taken))
+
+returns-3 : tie.Need-returns-3
+unfolding arrivalOf
+returns-3 c =
+    let e = c .before .before in
+    λ qs ds sp. simp (lt-leb _ _ (e .before .if1 .left), ne-eqb _ _ (e .if2 .left), lt-ltb _ _ (c .if3 .taken))
+
+returns-4 : tie.Need-returns-4
+unfolding arrivalOf
+returns-4 c =
+    let i = c .before .before in
+    let e = i .before .before in
+    λ qs ds sp. simp (lt-leb _ _ (e .before .if1 .left), ne-eqb _ _ (e .if2 .left), le-ltb _ _ (i .if3 .left), le-leb _ _ (c .if4 .taken))
+
+cast-rows : tie.Need-cast-rows
+cast-rows c =
+    let i = c .before .before in
+    let e = i .before .before in
+    omega (arith, e .before .before .pre .maxima-most (e .before .before .args .flow) (e .before .if1 .left), i .if3 .left)
+
+returns-5 : tie.Need-returns-5
+unfolding arrivalOf
+returns-5 c =
+    let i = c .before .before in
+    let e = i .before .before in
+    λ qs ds sp. simp (lt-leb _ _ (e .before .if1 .left), ne-eqb _ _ (e .if2 .left), le-ltb _ _ (i .if3 .left), lt-leb _ _ (c .if4 .left))
+
+pub book-spec : {M : Type 1} → statement M
+book-spec =
+    tie.close
+    (tie.spec
+    returns
+    returns-2
+    (λ c. search needs)
+    (λ c. search needs)
+    returns-3
+    (λ c. search needs)
+    returns-4
+    (λ c. search needs)
+    cast-rows
+    (λ c. search needs)
+    (λ c. search needs)
+    (λ c. search needs)
+    (λ c. search needs)
+    (λ c. search needs)
+    (λ c. search needs)
+    returns-5)

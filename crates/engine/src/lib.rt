@@ -1,0 +1,288 @@
+// The scheduler's steps over lent arrays, each done once: the soundness test, the booking of an
+// arrival, and the pick. The public functions lend a State's parts to it, a run its own arrays.
+//
+// The arrays are those of a table (n, quanta, maxima) and of a line (counts, deficits, rows, and the
+// place with its visit in `spot`). Their contracts speak of them as `tableOf ..` and `lineOf ..`.
+use drr::ArrivalAnswer;
+use drr::Found;
+use drr::PickAnswer;
+use drr::Refusal;
+use drr::Spot;
+ghost use mathlib.Core.Path.{_≡_};
+ghost use mathlib.Core.Bool.{true, false};
+ghost use Prim.Native.Nat.{ℕ, _+_, _-_, _≤_, _<_};
+ghost use Rattle.drr.specs.State.{tableOf, lineOf, charge, shiftedOf};
+ghost use Rattle.drr.specs.Sound.{headb, numbersb, cellb, soundb};
+ghost use Rattle.drr.specs.Facts.{Sound};
+ghost use Rattle.drr.specs.Answers.{pickPaper, arrivalPaper, outcome};
+ghost use Rattle.drr.specs.Arrival.{Booked};
+ghost use Rattle.drr.specs.Pick.{after, firstOf};
+ghost use Rattle.drr.specs.Computed.{sending, look as lookOf, pickOf};
+ghost use Rattle.engine.specs.Needs.{Bookable, Sendable};
+
+// What a pick answers, and where it leaves the visit.
+pub struct Picking {
+    pub answer: PickAnswer,
+    pub spot: Spot,
+}
+
+// What a packet of this length is charged.
+fn charge_of(length: u16) -> u32
+    ensures { λ r. ⌜ r ≡ charge length ⌝ }
+{
+    length as u32
+}
+
+// The flow after f, round a table of n.
+fn after_flow(n: usize, f: usize) -> usize
+    requires { ⌜ f < 16 ⌝ }
+    ensures { λ r. ⌜ r ≡ after n f ⌝ }
+{
+    if f + 1 < n { f + 1 } else { 0 }
+}
+
+// The first flow with a packet waiting, from the flow after the place, round the table, the place
+// itself last.
+fn next_waiting(n: usize, counts: &[u8; 16], place: usize) -> Found
+    requires { ⌜ n ≤ 16 ⌝ }
+    requires { ⌜ place < 16 ⌝ }
+    ensures { λ r. ⌜ r ≡ firstOf n (now (counts .entry)) n place ⌝ }
+{
+    let mut f = place;
+    let mut left = n;
+    while 0 < left {
+        f = after_flow(n, f);
+        if 0 < counts[f] {
+            return Found::At(f);
+        }
+        left -= 1;
+    }
+    Found::Nothing
+}
+
+// A row without its oldest length, the freed cell zero.
+fn shifted(row: [u16; 32]) -> [u16; 32]
+    ensures { λ r. ⌜ r ≡ shiftedOf row ⌝ }
+{
+    let mut lengths = [0u16; 32];
+    let mut k: usize = 0;
+    while k < 31 {
+        lengths[k] = row[k + 1];
+        k += 1;
+    }
+    lengths
+}
+
+// The oldest packet of flow f is sent, in its open visit.
+fn send(
+    counts: &mut [u8; 16],
+    deficits: &mut [u32; 16],
+    rows: &mut [[u16; 32]; 16],
+    f: usize,
+    visits: u32,
+) -> PickAnswer
+    requires { ⌜ Sendable (lineOf (now counts) (now deficits) (now rows) (record { place = f; opened = true })) f ⌝ }
+    ensures { λ r. ⌜ outcome (pickPaper r) (lineOf (now (counts .exit)) (now (deficits .exit)) (now (rows .exit)) (record { place = f; opened = true })) ≡ sending (lineOf (now (counts .entry)) (now (deficits .entry)) (now (rows .entry)) (record { place = f; opened = true })) f visits ⌝ }
+{
+    let row = rows[f];
+    let length = row[0];
+    let d = deficits[f] - charge_of(length);
+    deficits[f] = d;
+    counts[f] = counts[f] - 1;
+    let rest = shifted(row);
+    rows[f] = rest;
+    PickAnswer::Sent(f, length as u32, d, visits)
+}
+
+// Steps 2 and 3: visits are opened round the table until a packet is sent, or nothing waits.
+// The maxima bound the packets, and with them the number of visits; no step reads them.
+fn look(
+    n: usize,
+    quanta: &[u32; 16],
+    maxima: &[u32; 16],
+    counts: &mut [u8; 16],
+    deficits: &mut [u32; 16],
+    rows: &mut [[u16; 32]; 16],
+    start: usize,
+) -> Picking
+    requires { ⌜ Sound (tableOf n (now quanta) (now maxima)) (lineOf (now counts) (now deficits) (now rows) (record { place = start; opened = false })) ⌝ }
+    ensures { λ r. ⌜ outcome (pickPaper (r .answer)) (lineOf (now (counts .exit)) (now (deficits .exit)) (now (rows .exit)) (r .spot)) ≡ lookOf (tableOf n (now (quanta .entry)) (now (maxima .entry))) 0 (lineOf (now (counts .entry)) (now (deficits .entry)) (now (rows .entry)) (record { place = start; opened = false })) ⌝ }
+{
+    let mut place = start;
+    let mut visits: u32 = 0;
+    loop {
+        let found = next_waiting(n, counts, place);
+        let Found::At(f) = found else {
+            return Picking {
+                answer: PickAnswer::Idle,
+                spot: Spot {
+                    place: place,
+                    opened: false,
+                },
+            };
+        };
+        visits += 1;
+        let due = charge_of(rows[f][0]);
+        let d = deficits[f] + quanta[f];
+        deficits[f] = d;
+        place = f;
+        if due <= d {
+            let answer = send(counts, deficits, rows, f, visits);
+            return Picking {
+                answer: answer,
+                spot: Spot {
+                    place: f,
+                    opened: true,
+                },
+            };
+        }
+    }
+}
+
+// The pick on a sound line.
+pub fn pick_in(
+    n: usize,
+    quanta: &[u32; 16],
+    maxima: &[u32; 16],
+    counts: &mut [u8; 16],
+    deficits: &mut [u32; 16],
+    rows: &mut [[u16; 32]; 16],
+    spot: Spot,
+) -> Picking
+    requires { ⌜ Sound (tableOf n (now quanta) (now maxima)) (lineOf (now counts) (now deficits) (now rows) spot) ⌝ }
+    ensures { λ r. ⌜ outcome (pickPaper (r .answer)) (lineOf (now (counts .exit)) (now (deficits .exit)) (now (rows .exit)) (r .spot)) ≡ pickOf (tableOf n (now (quanta .entry)) (now (maxima .entry))) (lineOf (now (counts .entry)) (now (deficits .entry)) (now (rows .entry)) spot) ⌝ }
+{
+    let f = spot.place;
+    if spot.opened {
+        if 0 < counts[f] {
+            if charge_of(rows[f][0]) <= deficits[f] {
+                let answer = send(counts, deficits, rows, f, 0);
+                return Picking {
+                    answer: answer,
+                    spot: Spot {
+                        place: f,
+                        opened: true,
+                    },
+                };
+            }
+        } else {
+            deficits[f] = 0;
+        }
+    }
+    look(n, quanta, maxima, counts, deficits, rows, f)
+}
+
+// A packet of `length` bytes for `flow` is put at the end of its row, or refused by 1, 2, 3 or 4.
+pub fn book(
+    n: usize,
+    maxima: &[u32; 16],
+    counts: &mut [u8; 16],
+    rows: &mut [[u16; 32]; 16],
+    flow: usize,
+    length: u32,
+) -> ArrivalAnswer
+    requires { ⌜ Bookable n (now maxima) ⌝ }
+    ensures { λ r. ⌜ Booked n (now (maxima .entry)) (now (counts .entry)) (now (rows .entry)) flow length (arrivalPaper r) (now (counts .exit)) (now (rows .exit)) ⌝ }
+{
+    if n <= flow {
+        return ArrivalAnswer::Refused(Refusal::UnknownFlow);
+    }
+    if length == 0 {
+        return ArrivalAnswer::Refused(Refusal::NoLength);
+    }
+    if maxima[flow] < length {
+        return ArrivalAnswer::Refused(Refusal::OverMaximum);
+    }
+    let c = counts[flow];
+    if 32 <= c {
+        return ArrivalAnswer::Refused(Refusal::RowFull);
+    }
+    let k = c as usize;
+    rows[flow][k] = length as u16;
+    counts[flow] = c + 1;
+    ArrivalAnswer::Accepted
+}
+
+// n is 0 to 16; the place is below n, or 0 and closed if n is 0.
+fn head_ok(n: usize, place: usize, opened: bool) -> bool
+    ensures { λ r. ⌜ r ≡ headb n place opened ⌝ }
+{
+    (n <= 16) & ((place < n) | ((n == 0) & (place == 0) & !opened))
+}
+
+// The numbers of one flow, in use or not.
+fn numbers_ok(
+    used: bool,
+    visited: bool,
+    quantum: u32,
+    maximum: u32,
+    deficit: u32,
+    count: u8,
+    oldest: u16,
+) -> bool
+    ensures { λ r. ⌜ r ≡ numbersb used visited quantum maximum deficit count oldest ⌝ }
+{
+    let range = ((1 <= quantum) & (quantum <= 65535))
+        & ((1 <= maximum) & (maximum <= 9216))
+        & (count <= 32);
+    let empty = count == 0;
+    let credit = (visited & (deficit < quantum))
+        | (!visited & ((empty & (deficit == 0)) | (!empty & (deficit < charge_of(oldest)))));
+    let zero = (quantum == 0) & (maximum == 0) & (deficit == 0) & (count == 0);
+    (used & (range & credit)) | (!used & zero)
+}
+
+// One cell of a row.
+fn cell_ok(k: usize, count: u8, maximum: u32, length: u16) -> bool
+    ensures { λ r. ⌜ r ≡ cellb k count maximum length ⌝ }
+{
+    let waits = k < count as usize;
+    (waits & ((1 <= length) & (length as u32 <= maximum))) | (!waits & (length == 0))
+}
+
+// Whether what the arrays hold is sound. Both loops are left at the first fault.
+pub fn sound_in(
+    n: usize,
+    quanta: &[u32; 16],
+    maxima: &[u32; 16],
+    counts: &[u8; 16],
+    deficits: &[u32; 16],
+    rows: &[[u16; 32]; 16],
+    spot: Spot,
+) -> bool
+    ensures { λ r. ⌜ r ≡ soundb (tableOf n (now (quanta .entry)) (now (maxima .entry))) (lineOf (now (counts .entry)) (now (deficits .entry)) (now (rows .entry)) spot) ⌝ }
+{
+    let place = spot.place;
+    let opened = spot.opened;
+    if !head_ok(n, place, opened) {
+        return false;
+    }
+    let mut ok = true;
+    let mut f: usize = 0;
+    'flows: while f < 16 {
+        let maximum = maxima[f];
+        let count = counts[f];
+        if !numbers_ok(
+            f < n,
+            opened & (place == f),
+            quanta[f],
+            maximum,
+            deficits[f],
+            count,
+            rows[f][0],
+        ) {
+            ok = false;
+            break 'flows;
+        }
+        let mut k: usize = 0;
+        while k < 32 {
+            if !cell_ok(k, count, maximum, rows[f][k]) {
+                ok = false;
+                break 'flows;
+            }
+            k += 1;
+        }
+        f += 1;
+    }
+    ok
+}

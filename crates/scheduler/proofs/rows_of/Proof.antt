@@ -1,0 +1,54 @@
+use mathlib.Core.Path.{_≡_, refl, sym, ap, _∙_}
+use mathlib.Core.List.{List, [], _∷_, map}
+use Prim.Native.Nat.{ℕ, _+_, _-_, _≤_, _<_}
+use native.Mathlib.Omega.{arith}
+use borrow.Author.Needs.{needs}
+use lib.ListN.{length, getD, set, replicate, length-map}
+use lib.Seq.{paste}
+use Rattle.drr.specs.declared.Row.{Row}
+use Rattle.drr.specs.State.{lengthsOf, rowFrom, cellsIn, rowsFrom}
+use Rattle.scheduler.proofs.Copies.{map-turn, copy-end}
+use Rattle.scheduler.proofs.rows_of.Statement.{statement}
+use Rattle.scheduler.proofs.rows_of.Tie as tie
+
+abbrev Inv-loop : tie.InvT-loop
+Inv-loop cells out₀ f₀ out f = (f ≤ 16) × (out ≡ paste out₀ 0 (rowsFrom cells) f)
+
+abbrev μ-loop : tie.MeasureT-loop
+μ-loop cells out₀ f₀ out f = 16 - f
+
+abbrev zeros : List Row
+zeros = replicate 16 (rowFrom (replicate 32 0))
+
+zeros-long : length zeros ≡ 16
+zeros-long = refl
+
+long : (c : tie.Start Inv-loop μ-loop) → length (rowsFrom (c .args .t1)) ≡ 16
+long c = let a = c .args in length-map (a .t1) rowFrom ∙ search needs
+
+loop-again : tie.Need-loop-again Inv-loop μ-loop
+loop-again c =
+    let o = c .before .before in
+    (omega arith, map-turn rowFrom zeros (o .before .args .t1) (o .loop .f) [] (o .loop .out) (o .loop .inv .1) (omega (arith, zeros-long)) (omega (arith, long (o .before))))
+
+returns : tie.Need-returns Inv-loop μ-loop
+returns c =
+    let o = c .before in
+    let e : o .loop .f ≡ 16 = omega arith in
+    (rw e at (o .loop .inv .1)) ∙ copy-end zeros _ 16 zeros-long (long (o .before))
+
+pub rows-of-spec : {M : Type 1} → statement M
+rows-of-spec =
+    tie.close
+    (tie.spec
+    Inv-loop
+    μ-loop
+    (λ c. (omega arith, refl))
+    (λ c. search needs)
+    (λ c. search needs)
+    (λ c. search needs)
+    (λ c. search needs)
+    (λ c. search needs)
+    (λ c. search needs)
+    loop-again
+    returns)

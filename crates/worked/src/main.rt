@@ -1,0 +1,113 @@
+// Document 01's worked example by direct calls of setup, arrival and pick.
+//
+// Prints a line a call: `A flow length` for an accepted arrival, `D flow length refusal` for a
+// refused one, `S flow length deficit visits` for a packet sent, `I` for idle, `R refusal place` for
+// a refused setup. The ticks of the run are left out: the calls stand in its order.
+use drr::ArrivalAnswer;
+use drr::FlowRecord;
+use drr::PickAnswer;
+use drr::SetupAnswer;
+use drr::State;
+
+fn wide(x: u32) -> u64 {
+    x as u64
+}
+
+fn number(x: usize) -> u64 {
+    x as u64
+}
+
+fn field(x: u64) {
+    io::write_all(1, b" ");
+    io::print_decimal(1, x);
+}
+
+fn end() {
+    io::write_all(1, b"\n");
+}
+
+fn arrive(s: State, flow: usize, length: u32) -> State {
+    let r = scheduler::arrival(s, flow, length);
+    let answer = r.answer;
+    match answer {
+        ArrivalAnswer::Accepted => {
+            io::write_all(1, b"A");
+            field(number(flow));
+            field(wide(length));
+            end();
+        }
+        ArrivalAnswer::Refused(why) => {
+            io::write_all(1, b"D");
+            field(number(flow));
+            field(wide(length));
+            field(wide(drr::refusal_number(why)));
+            end();
+        }
+    }
+    r.state
+}
+
+fn take(s: State) -> State {
+    let r = scheduler::pick(s);
+    let answer = r.answer;
+    match answer {
+        PickAnswer::Idle => {
+            io::write_all(1, b"I\n");
+        }
+        PickAnswer::Sent(flow, length, deficit, visits) => {
+            io::write_all(1, b"S");
+            field(number(flow));
+            field(wide(length));
+            field(wide(deficit));
+            field(wide(visits));
+            end();
+        }
+        PickAnswer::Refused(why) => {
+            io::write_all(1, b"R");
+            field(wide(drr::refusal_number(why)));
+            end();
+        }
+    }
+    r.state
+}
+
+fn calls(fresh: State) {
+    let mut s = fresh;
+    s = arrive(s, 0, 200);
+    s = arrive(s, 0, 750);
+    s = arrive(s, 1, 500);
+    s = arrive(s, 2, 400);
+    s = take(s);
+    s = arrive(s, 2, 700);
+    s = take(s);
+    s = take(s);
+    s = arrive(s, 1, 250);
+    s = take(s);
+    s = take(s);
+    s = take(s);
+}
+
+fn main() {
+    let mut list = [FlowRecord {
+        quantum: 500,
+        maximum: 800,
+    }; 17];
+    list[1] = FlowRecord {
+        quantum: 300,
+        maximum: 800,
+    };
+    list[2] = FlowRecord {
+        quantum: 400,
+        maximum: 600,
+    };
+    let m = scheduler::flows::setup_first(list, 3);
+    let answer = m.answer;
+    if let SetupAnswer::Refused(why, place) = answer {
+        io::write_all(1, b"R");
+        field(wide(drr::refusal_number(why)));
+        field(number(place));
+        end();
+        return;
+    }
+    calls(m.state);
+}
