@@ -80,9 +80,9 @@ fn send(
     rows: &mut [[u16; 32]; 16],
     f: usize,
     visits: u32,
-) -> PickAnswer
+) -> Picking
     requires { ⌜ Sendable (lineOf (now counts) (now deficits) (now rows) (record { place = f; opened = true })) f ⌝ }
-    ensures { λ r. ⌜ outcome (pickPaper r) (lineOf (now (counts .exit)) (now (deficits .exit)) (now (rows .exit)) (record { place = f; opened = true })) ≡ sending (lineOf (now (counts .entry)) (now (deficits .entry)) (now (rows .entry)) (record { place = f; opened = true })) f visits ⌝ }
+    ensures { λ r. ⌜ outcome (pickPaper (r .answer)) (lineOf (now (counts .exit)) (now (deficits .exit)) (now (rows .exit)) (r .spot)) ≡ sending (lineOf (now (counts .entry)) (now (deficits .entry)) (now (rows .entry)) (record { place = f; opened = true })) f visits ⌝ }
 {
     let row = rows[f];
     let length = row[0];
@@ -91,7 +91,13 @@ fn send(
     counts[f] = counts[f] - 1;
     let rest = shifted(row);
     rows[f] = rest;
-    PickAnswer::Sent(f, length as u32, d, visits)
+    Picking {
+        answer: PickAnswer::Sent(f, length as u32, d, visits),
+        spot: Spot {
+            place: f,
+            opened: true,
+        },
+    }
 }
 
 // Steps 2 and 3: visits are opened round the table until a packet is sent, or nothing waits.
@@ -127,14 +133,7 @@ fn look(
         deficits[f] = d;
         place = f;
         if due <= d {
-            let answer = send(counts, deficits, rows, f, visits);
-            return Picking {
-                answer: answer,
-                spot: Spot {
-                    place: f,
-                    opened: true,
-                },
-            };
+            return send(counts, deficits, rows, f, visits);
         }
     }
 }
@@ -156,14 +155,7 @@ pub fn pick_in(
     if spot.opened {
         if 0 < counts[f] {
             if charge_of(rows[f][0]) <= deficits[f] {
-                let answer = send(counts, deficits, rows, f, 0);
-                return Picking {
-                    answer: answer,
-                    spot: Spot {
-                        place: f,
-                        opened: true,
-                    },
-                };
+                return send(counts, deficits, rows, f, 0);
             }
         } else {
             deficits[f] = 0;
