@@ -14,7 +14,7 @@ use Rattle.drr.specs.declared.Found.{Found}
 use Rattle.drr.specs.declared.Found.the-variants.{At, Nothing}
 use Rattle.drr.specs.State.{Line, deficitOf, due, lineIn, stateFrom, freshLine, freshState, emptyTable}
 use Rattle.drr.specs.Sound.{soundState}
-use Rattle.drr.specs.Facts.{Sound, SoundState, ShapedState}
+use Rattle.drr.specs.Facts.{Ranged, Sound, SoundState, ShapedState}
 use Rattle.drr.specs.Answers.{Answer, idle, Outcome, outcome, Reply, reply, pickRefused, guarded}
 use Rattle.drr.specs.Pick.{next, openAt, closed, emptied}
 use Rattle.drr.specs.Computed.{serve, turn, lookFor, enough, carryOn, readyb, pickAt, pickOf, pickReply}
@@ -22,7 +22,7 @@ use Rattle.drr.specs.Setup.{tableFor, setupAnswer, setupReply}
 use Rattle.drr.proofs.Bools.{by-test, dec}
 use Rattle.drr.proofs.Facts.{sound-is, of-sound}
 use Rattle.drr.proofs.States.{state-back, line-back, guarded-sound, guarded-not}
-use Rattle.drr.proofs.Tables.{Ranged, fresh-sound, no-flows-ranged, made-ranged}
+use Rattle.drr.proofs.Tables.{fresh-sound, no-flows-ranged, made-ranged}
 use Rattle.drr.proofs.Keeps.{pick-keeps, idle-again}
 
 -- ---- the state made of a sound line is sound

@@ -9,6 +9,7 @@ pub mod One
 pub mod Tables
 pub mod Keeps
 pub mod Papers
+pub mod Sums
 pub mod States
 pub mod Calls
 pub mod Claims

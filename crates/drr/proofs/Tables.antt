@@ -13,19 +13,10 @@ use Rattle.drr.specs.declared.Table.{Table}
 use Rattle.drr.specs.declared.FlowRecord.{FlowRecord}
 use Rattle.drr.specs.State.{quantumOf, maximumOf, freshLine, noFlows}
 use Rattle.drr.specs.Sound.{withinb}
-use Rattle.drr.specs.Facts.{Sound}
+use Rattle.drr.specs.Facts.{Ranged, Sound}
 use Rattle.drr.specs.Answers.{setupRefused}
 use Rattle.drr.specs.Setup.{cells, tableFor, flowsAnswer, setupAnswer}
 use Rattle.drr.proofs.Bools.{below?, within-is, or-right}
-
--- ---- a table within the limits, and its fresh line
-pub record Ranged (T : Table) : Type 0 where
-  pub quanta-length : length (T .quanta) ≡ 16
-  pub maxima-length : length (T .maxima) ≡ 16
-  pub flows-few : T .n ≤ 16
-  pub quantum-in : (f : ℕ) → f < T .n → (1 ≤ quantumOf T f) × (quantumOf T f ≤ 65535)
-  pub maximum-in : (f : ℕ) → f < T .n → (1 ≤ maximumOf T f) × (maximumOf T f ≤ 9216)
-  pub unused-zero : (f : ℕ) → T .n ≤ f → (quantumOf T f ≡ 0) × (maximumOf T f ≡ 0)
 
 zero-at : (n f : ℕ) → getD {A = ℕ} (replicate n 0) f 0 ≡ 0
 zero-at zero f = refl

@@ -42,6 +42,15 @@ pub record FlowFacts (T : Table) (f : ℕ) (visited : Bool) (deficit count : ℕ
 abbrev pub Flow : Table → Line → ℕ → Type 0
 Flow T l f = FlowFacts T f (visited l f) (deficitOf l f) (waitingOf l f) (rowOf l f)
 
+-- a table within setup's limits
+pub record Ranged (T : Table) : Type 0 where
+  pub quanta-length : length (T .quanta) ≡ 16
+  pub maxima-length : length (T .maxima) ≡ 16
+  pub flows-few : T .n ≤ 16
+  pub quantum-in : (f : ℕ) → f < T .n → (1 ≤ quantumOf T f) × (quantumOf T f ≤ 65535)
+  pub maximum-in : (f : ℕ) → f < T .n → (1 ≤ maximumOf T f) × (maximumOf T f ≤ 9216)
+  pub unused-zero : (f : ℕ) → T .n ≤ f → (quantumOf T f ≡ 0) × (maximumOf T f ≡ 0)
+
 -- the lengths of the arrays, as the code's types give them to every state
 pub record Shaped (T : Table) (l : Line) : Type 0 where
   pub quanta-length : length (T .quanta) ≡ 16

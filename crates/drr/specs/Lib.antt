@@ -7,3 +7,4 @@ pub mod Arrival
 pub mod Pick
 pub mod Computed
 pub mod Setup
+pub mod Figures
