@@ -26,7 +26,7 @@ use Rattle.drr.proofs.Tables.{fresh-sound, no-flows-ranged, made-ranged
 use Rattle.drr.proofs.Keeps.{pick-keeps, idle-again}
 
 -- ---- the state made of a sound line is sound
-whole-sound : (T : Table) (l : Line) → Sound T l → SoundState (stateFrom T l)
+pub whole-sound : (T : Table) (l : Line) → Sound T l → SoundState (stateFrom T l)
 whole-sound T l ok = subst⁻¹ (Sound T) (line-back T l) ok
 
 pub fresh-state-sound : {T : Table} → Ranged T → SoundState (freshState T)

@@ -10,6 +10,14 @@ pub mod Tables
 pub mod Keeps
 pub mod Papers
 pub mod Sums
+pub mod Figures
+pub mod Stretches
+pub mod Ranks
+pub mod Order
+pub mod Round
+pub mod Bounds
+pub mod Service
 pub mod States
 pub mod Calls
+pub mod Demand3
 pub mod Claims

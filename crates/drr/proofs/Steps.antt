@@ -184,17 +184,20 @@ module _ (T : Table) (l : Line) (ok : Sound T l) (p : ℕ) (in-table : p < T .n)
     }
 
 -- ---- a visit to the flow that the search finds
+pub found-in : (T : Table) (l : Line) (f : ℕ) → next T l ≡ At f → (f < T .n) × (0 < waitingOf l f)
+unfolding firstOf
+found-in T l f at = found-waits (T .n) (l .counts) (T .n) (l .place) f (some (T .n) at) at
+  where
+    some : (n : ℕ) → firstOf n (l .counts) n (l .place) ≡ At f → 0 < n
+    some zero e = absurd (let z : _≡_ {A = ℕ} 0 1 = cc in omega arith)
+    some (suc n) e = omega arith
+
 module _ (T : Table) (l : Line) (ok : Sound T l) (f : ℕ) (at : next T l ≡ At f) where
-  pub found-in : (f < T .n) × (0 < waitingOf l f)
-  unfolding firstOf
-  found-in = found-waits (T .n) (l .counts) (T .n) (l .place) f (some (T .n) at) at
-    where
-      some : (n : ℕ) → firstOf n (l .counts) n (l .place) ≡ At f → 0 < n
-      some zero e = absurd (let z : _≡_ {A = ℕ} 0 1 = cc in omega arith)
-      some (suc n) e = omega arith
+  found : (f < T .n) × (0 < waitingOf l f)
+  found = found-in T l f at
 
   pub grown : deficitOf (openAt T l f) f ≡ deficitOf l f + quantumOf T f
-  grown = deficit-here T l ok f (found-in .0) (deficitOf l f + quantumOf T f)
+  grown = deficit-here T l ok f (found .0) (deficitOf l f + quantumOf T f)
 
   module _ (off : l .opened ≡ false) where
     shut : l .opened ≡ true → l .place ≡ f
@@ -203,16 +206,16 @@ module _ (T : Table) (l : Line) (ok : Sound T l) (f : ℕ) (at : next T l ≡ At
     -- the deficit before the visit
     pub before : deficitOf l f < due l f
     before =
-        ok .flows f (low T l ok f (found-in .0)) .credit (found-in .0) .waiting-below (ap (λ (b : Bool). b && eqb (l .place) f) off) (found-in .1)
+        ok .flows f (low T l ok f (found .0)) .credit (found .0) .waiting-below (ap (λ (b : Bool). b && eqb (l .place) f) off) (found .1)
 
     pub visit-passes : deficitOf (openAt T l f) f < due l f → Sound T (closed (openAt T l f))
     visit-passes short =
-        rests T l ok f (found-in .0) shut (deficitOf l f + quantumOf T f) (λ z. absurd (omega (arith, found-in .1))) (λ _. rw grown at short)
+        rests T l ok f (found .0) shut (deficitOf l f + quantumOf T f) (λ z. absurd (omega (arith, found .1))) (λ _. rw grown at short)
 
     pub visit-sends : due l f ≤ deficitOf (openAt T l f) f → Sound T (sent (openAt T l f) f)
     visit-sends enough =
         rw (set-set (l .deficits) f (deficitOf l f + quantumOf T f) (deficitOf (openAt T l f) f - due l f))
-        (serves T l ok f (found-in .0) shut (found-in .1) (deficitOf (openAt T l f) f - due l f) (omega (arith, grown, before, enough)))
+        (serves T l ok f (found .0) shut (found .1) (deficitOf (openAt T l f) f - due l f) (omega (arith, grown, before, enough)))
 
 -- ---- step 1, in an open visit
 module _ (T : Table) (l : Line) (ok : Sound T l) (on : l .opened ≡ true) where

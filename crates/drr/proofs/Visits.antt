@@ -64,7 +64,7 @@ module _ (T : Table) (l : Line) (ok : Sound T l) where
 
   pub grows : (f : ℕ) → next T l ≡ At f → total (l .deficits) + 1 ≤ total (openAt T l f .deficits)
   grows f at =
-      let in-table = found-in T l ok f at .0 in
+      let in-table = found-in T l f at .0 in
       let q = ok .flows f (omega (arith, ok .flows-few)) .used in-table .quantum-least in
       let z = total-set (l .deficits) f (deficitOf l f + quantumOf T f) (omega (arith, ok .shape .deficits-length, ok .flows-few)) in
       omega arith

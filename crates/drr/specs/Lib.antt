@@ -8,3 +8,4 @@ pub mod Pick
 pub mod Computed
 pub mod Setup
 pub mod Figures
+pub mod Floor

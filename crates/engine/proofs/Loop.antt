@@ -40,7 +40,7 @@ module _ (T : Table) (s t : Line) (v : ℕ) (h : Along T s t v) (off : t .opened
 
   module _ (f : ℕ) (at : next T t ≡ At f) where
     pub flow : (f < T .n) × (0 < waitingOf t f)
-    flow = found-in T t (h .sound) f at
+    flow = found-in T t f at
 
     pub flow-low : f < 16
     flow-low = low T t (h .sound) f (flow .0)

@@ -1,0 +1,65 @@
+-- Demand 3, the floor, as one statement: while a flow has packets waiting, the least it receives out of the bytes on the line.
+use mathlib.Core.Bool.{Bool, true, false, cond}
+use mathlib.Core.List.{List, [], _∷_}
+use Prim.Native.Nat.{ℕ, _+_, _≤_, _<_}
+use lib.Dec.{eqb}
+use Rattle.drr.specs.declared.State.{State}
+use Rattle.drr.specs.State.{waitingOf, charge, lineIn}
+use Rattle.drr.specs.Facts.{SoundState}
+use Rattle.drr.specs.Answers.{Answer, Reply}
+use Rattle.drr.specs.Arrival.{arrivalReply}
+use Rattle.drr.specs.Computed.{pickReply}
+use Rattle.drr.specs.Figures.{owed}
+
+-- "any calls of arrival and pick": an arrival with any flow and any length, or a pick
+pub data Call : Type 0 where
+  arrives : ℕ → ℕ → Call
+  picks : Call
+
+-- what a call answers and leaves, refused or not, by the definitions of arrival and pick
+abbrev pub replyTo : State → Call → Reply
+replyTo s (arrives flow length) = arrivalReply s flow length
+replyTo s picks = pickReply s
+
+-- the state after the calls
+abbrev pub afterCalls : State → List Call → State
+afterCalls s [] = s
+afterCalls s (c ∷ cs) = afterCalls (replyTo s c .state) cs
+
+-- the bytes that an answer says were sent to flow i: none but by a pick that sent, which answers flow, length, deficit and visits
+abbrev pub sentIn : List ℕ → ℕ → ℕ
+sentIn [] i = 0
+sentIn (flow ∷ []) i = 0
+sentIn (flow ∷ length ∷ rest) i = cond (eqb flow i) (charge length) 0
+
+-- .. and in all
+abbrev pub bytesIn : List ℕ → ℕ
+bytesIn [] = 0
+bytesIn (flow ∷ []) = 0
+bytesIn (flow ∷ length ∷ rest) = charge length
+
+-- "if the picks sent S bytes in all"
+abbrev pub bytesSent : State → List Call → ℕ
+bytesSent s [] = 0
+bytesSent s (c ∷ cs) = bytesIn (replyTo s c .answer .numbers) + bytesSent (replyTo s c .state) cs
+
+-- "that flow was sent"
+abbrev pub flowSent : State → List Call → ℕ → ℕ
+flowSent s [] i = 0
+flowSent s (c ∷ cs) i = sentIn (replyTo s c .answer .numbers) i + flowSent (replyTo s c .state) cs i
+
+abbrev pub Waits : State → ℕ → Type 0
+Waits s i = 0 < waitingOf (lineIn (s .line)) i
+
+-- "a flow has a packet waiting at the start of every pick"
+abbrev pub WaitsAtPicks : State → List Call → ℕ → Type 0
+WaitsAtPicks s [] i = Unit {0}
+WaitsAtPicks s (arrives flow length ∷ cs) i = WaitsAtPicks (replyTo s (arrives flow length) .state) cs i
+WaitsAtPicks s (picks ∷ cs) i = Waits s i × WaitsAtPicks (replyTo s picks .state) cs i
+
+-- "From any sound state, any calls of arrival and pick, refused ones among them: in any stretch of these calls where a flow has a packet waiting at the start of every pick, if the picks sent S bytes in all, that flow was sent at least owed(S). For each flow, each stretch, each S, with no upper limit on S."
+abbrev pub Floor : Type 0
+Floor =
+    (s : State) → SoundState s → (before stretch : List Call) (i : ℕ) → i < s .table .n →
+    WaitsAtPicks (afterCalls s before) stretch i →
+    owed (s .table) i (bytesSent (afterCalls s before) stretch) ≤ flowSent (afterCalls s before) stretch i
