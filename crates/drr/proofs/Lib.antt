@@ -1,4 +1,4 @@
--- Laws of the definitions. Claims.antt is the page to read.
+-- Laws of the definitions.
 pub mod Bools
 pub mod Search
 pub mod Facts
@@ -20,4 +20,3 @@ pub mod Service
 pub mod States
 pub mod Calls
 pub mod Demand3
-pub mod Claims

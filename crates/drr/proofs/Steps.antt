@@ -186,11 +186,11 @@ module _ (T : Table) (l : Line) (ok : Sound T l) (p : ℕ) (in-table : p < T .n)
 -- ---- a visit to the flow that the search finds
 pub found-in : (T : Table) (l : Line) (f : ℕ) → next T l ≡ At f → (f < T .n) × (0 < waitingOf l f)
 unfolding firstOf
-found-in T l f at = found-waits (T .n) (l .counts) (T .n) (l .place) f (some (T .n) at) at
+found-in T l f at = found-waits (T .n) (l .counts) (T .n) _ f (some (T .n) _ at) at
   where
-    some : (n : ℕ) → firstOf n (l .counts) n (l .place) ≡ At f → 0 < n
-    some zero e = absurd (let z : _≡_ {A = ℕ} 0 1 = cc in omega arith)
-    some (suc n) e = omega arith
+    some : (n p : ℕ) → firstOf n (l .counts) n p ≡ At f → 0 < n
+    some zero p e = absurd (let z : _≡_ {A = ℕ} 0 1 = cc in omega arith)
+    some (suc n) p e = omega arith
 
 module _ (T : Table) (l : Line) (ok : Sound T l) (f : ℕ) (at : next T l ≡ At f) where
   found : (f < T .n) × (0 < waitingOf l f)

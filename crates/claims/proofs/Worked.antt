@@ -1,0 +1,53 @@
+-- Document 01's run as calls: a stretch that meets what the floor asks, computed from the definitions.
+use mathlib.Core.Path.{_≡_, refl}
+use mathlib.Core.List.{List, [], _∷_}
+use Prim.Native.Nat.{ℕ, _≤_, _<_}
+use lib.Dec.{lit<}
+use Rattle.drr.specs.declared.State.{State}
+use Rattle.drr.specs.declared.FlowRecord.{FlowRecord}
+use Rattle.drr.specs.Sound.{all, cellsb, flowb, soundb}
+use Rattle.drr.specs.Answers.{guarded}
+use Rattle.drr.specs.Arrival.{arrivalOf}
+use Rattle.drr.specs.Pick.{firstOf}
+use Rattle.drr.specs.Computed.{lookFor}
+use Rattle.drr.specs.Setup.{setupAnswer, setupReply}
+use Rattle.drr.specs.Figures.{owed}
+use Rattle.drr.specs.Floor.{Call, arrives, picks, afterCalls, bytesSent, flowSent, WaitsAtPicks}
+use Rattle.claims.proofs.Claims.{setup-sound, the-floor}
+
+-- "Flows: 0 has Q 500, l 800; 1 has 300, 800; 2 has 400, 600."
+abbrev flows : List FlowRecord
+flows =
+    record { quantum = 500; maximum = 800 }
+    ∷ record { quantum = 300; maximum = 800 }
+    ∷ record { quantum = 400; maximum = 600 }
+    ∷ []
+
+-- the four packets that arrive at tick 0 ..
+abbrev before : List Call
+before = arrives 0 200 ∷ arrives 0 750 ∷ arrives 1 500 ∷ arrives 2 400 ∷ []
+
+-- .. and the rest of the run, with the arrival that is refused: flow 1 waits at each of the five picks
+abbrev stretch : List Call
+stretch = picks ∷ arrives 2 700 ∷ picks ∷ picks ∷ arrives 1 250 ∷ picks ∷ picks ∷ []
+
+abbrev then : State
+then = afterCalls (setupReply flows .state) before
+
+pub record Run : Type 0 where
+  pub waits : WaitsAtPicks then stretch 1
+  pub bytes : bytesSent then stretch ≡ 2100
+  pub sent : flowSent then stretch 1 ≡ 750
+
+pub run : Run
+unfolding all cellsb flowb soundb guarded arrivalOf firstOf lookFor setupAnswer setupReply
+run = record {
+  waits = (lit< tt, (lit< tt, (lit< tt, (lit< tt, (lit< tt, tt)))));
+  bytes = refl;
+  sent = refl;
+}
+
+-- so the floor speaks of it
+pub floor-here : owed (setupReply flows .state .table) 1 (bytesSent then stretch) ≤ flowSent then stretch 1
+unfolding setupAnswer setupReply
+floor-here = the-floor (setupReply flows .state) (setup-sound flows) before stretch 1 (lit< tt) (run .waits)
