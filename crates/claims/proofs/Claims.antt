@@ -15,13 +15,13 @@ use Rattle.drr.specs.declared.PickedLine.{PickedLine}
 use Rattle.drr.specs.declared.ArrivedLine.{ArrivedLine}
 use Rattle.drr.specs.declared.PickAnswer.{PickAnswer}
 use Rattle.drr.specs.declared.ArrivalAnswer.{ArrivalAnswer}
-use Rattle.drr.specs.declared.SetupAnswer.{SetupAnswer}
+use Rattle.drr.specs.declared.Verdict.{Verdict}
 use Rattle.drr.specs.declared.FlowRecord.{FlowRecord}
 use Rattle.drr.specs.declared.Made.{Made}
 use Rattle.drr.specs.State.{Line, quantumOf, maximumOf, lineIn, emptyTable}
 use Rattle.drr.specs.Sound.{soundb}
 use Rattle.drr.specs.Facts.{Shaped, Sound, SoundState, ShapedState}
-use Rattle.drr.specs.Answers.{Answer, idle, pickPaper, arrivalPaper, setupPaper, Outcome, outcome, Reply, reply}
+use Rattle.drr.specs.Answers.{Answer, idle, pickPaper, arrivalPaper, verdictPaper, Outcome, outcome, Reply, reply}
 use Rattle.drr.specs.Arrival.{arrivalOf, arrivalReply, Booked}
 use Rattle.drr.specs.Pick.{Picks}
 use Rattle.drr.specs.Computed.{pickOf, pickReply}
@@ -128,8 +128,8 @@ pick-answers-apart = papers.pick-one
 pub arrival-answers-apart : (a b : ArrivalAnswer) → arrivalPaper a ≡ arrivalPaper b → a ≡ b
 arrival-answers-apart = papers.arrival-one
 
-pub setup-answers-apart : (a b : SetupAnswer) → setupPaper a ≡ setupPaper b → a ≡ b
-setup-answers-apart = papers.setup-one
+pub verdicts-apart : (a b : Verdict) → verdictPaper a ≡ verdictPaper b → a ≡ b
+verdicts-apart = papers.verdict-one
 
 -- ---- DEMANDS 1 AND 2: no second answer, state or place meets a contract. (`refusal_number`, `sound`, `sound_line` and `engine::sound_in` promise an equation for the result itself.)
 pub one-pick : (s : State) (r t : Picked) →
@@ -142,8 +142,8 @@ one-arrival s f length r t p q = let e = p ∙ sym q in λ i. record { answer = 
 
 -- of `setup`, `setup_of` and `setup_first`
 pub one-setup : (xs : List FlowRecord) (r t : Made) →
-    reply (setupPaper (r .answer)) (r .state) ≡ setupReply xs → reply (setupPaper (t .answer)) (t .state) ≡ setupReply xs → r ≡ t
-one-setup xs r t p q = let e = p ∙ sym q in λ i. record { answer = papers.setup-one (r .answer) (t .answer) (ap (λ (z : Reply). z .answer) e) i; state = e i .state }
+    reply (verdictPaper (r .answer)) (r .state) ≡ setupReply xs → reply (verdictPaper (t .answer)) (t .state) ≡ setupReply xs → r ≡ t
+one-setup xs r t p q = let e = p ∙ sym q in λ i. record { answer = papers.verdict-one (r .answer) (t .answer) (ap (λ (z : Reply). z .answer) e) i; state = e i .state }
 
 pub one-pick-line : (T : Table) (l : Line) (r t : PickedLine) →
     outcome (pickPaper (r .answer)) (lineIn (r .line)) ≡ pickOf T l → outcome (pickPaper (t .answer)) (lineIn (t .line)) ≡ pickOf T l → r ≡ t

@@ -6,19 +6,31 @@ use Prim.Native.Nat.{ℕ}
 use lib.Dec.{eqb}
 use lib.ListN.{length, getD}
 use Rattle.drr.specs.declared.Refusal.{Refusal}
-use Rattle.drr.specs.declared.Refusal.the-variants.{UnknownFlow, NoLength, OverMaximum, RowFull, FlowCount, QuantumRange, MaximumRange, NotSound}
+use Rattle.drr.specs.declared.Refusal.the-variants.{UnknownFlow, NoLength, OverMaximum, RowFull, FlowCount, QuantumRange, MaximumRange, NotSound, FileLength, Reserved, EventCount, TablePlace, TickOrder, ListShort}
 use Rattle.drr.specs.declared.PickAnswer.{PickAnswer}
 use Rattle.drr.specs.declared.PickAnswer.the-variants as picks
 use Rattle.drr.specs.declared.ArrivalAnswer.{ArrivalAnswer}
 use Rattle.drr.specs.declared.ArrivalAnswer.the-variants as arrivals
-use Rattle.drr.specs.declared.SetupAnswer.{SetupAnswer}
-use Rattle.drr.specs.declared.SetupAnswer.the-variants as setups
-use Rattle.drr.specs.Answers.{numberOf, Answer, made, setupRefused, pickPaper, arrivalPaper, setupPaper}
+use Rattle.drr.specs.declared.Verdict.{Verdict}
+use Rattle.drr.specs.declared.Verdict.the-variants as verdicts
+use Rattle.drr.specs.Answers.{numberOf, Answer, fine, refusedAt, pickPaper, arrivalPaper, verdictPaper}
 
 refusalOf : ℕ → Refusal
 refusalOf k =
-    cond (eqb k 1) UnknownFlow (cond (eqb k 2) NoLength (cond (eqb k 3) OverMaximum (cond (eqb k 4) RowFull
-    (cond (eqb k 5) FlowCount (cond (eqb k 6) QuantumRange (cond (eqb k 7) MaximumRange NotSound))))))
+    cond (eqb k 1) UnknownFlow
+    (cond (eqb k 2) NoLength
+    (cond (eqb k 3) OverMaximum
+    (cond (eqb k 4) RowFull
+    (cond (eqb k 5) FlowCount
+    (cond (eqb k 6) QuantumRange
+    (cond (eqb k 7) MaximumRange
+    (cond (eqb k 8) NotSound
+    (cond (eqb k 9) FileLength
+    (cond (eqb k 10) Reserved
+    (cond (eqb k 11) EventCount
+    (cond (eqb k 12) TablePlace
+    (cond (eqb k 13) TickOrder
+    ListShort))))))))))))
 
 -- a refusal's number tells which it is, and is never 0
 record Named (why : Refusal) : Type 0 where
@@ -35,25 +47,31 @@ named FlowCount = record { back = refl; some = refl }
 named QuantumRange = record { back = refl; some = refl }
 named MaximumRange = record { back = refl; some = refl }
 named NotSound = record { back = refl; some = refl }
+named FileLength = record { back = refl; some = refl }
+named Reserved = record { back = refl; some = refl }
+named EventCount = record { back = refl; some = refl }
+named TablePlace = record { back = refl; some = refl }
+named TickOrder = record { back = refl; some = refl }
+named ListShort = record { back = refl; some = refl }
 
 pub number-some : (why : Refusal) → eqb (numberOf why) 0 ≡ false
 number-some why = named why .some
 
-pub setupFrom : Answer → SetupAnswer
-setupFrom a = cond (eqb (a .refusal) 0) setups.Made (setups.Refused (refusalOf (a .refusal)) (getD (a .numbers) 0 0))
+pub verdictFrom : Answer → Verdict
+verdictFrom a = cond (eqb (a .refusal) 0) verdicts.Fine (verdicts.Refused (refusalOf (a .refusal)) (getD (a .numbers) 0 0))
 
-pub setup-back : (a : SetupAnswer) → setupFrom (setupPaper a) ≡ a
-unfolding setupFrom
-setup-back setups.Made = refl
-setup-back (setups.Refused why place) = rw (named why .some, named why .back)
+pub verdict-back : (a : Verdict) → verdictFrom (verdictPaper a) ≡ a
+unfolding verdictFrom
+verdict-back verdicts.Fine = refl
+verdict-back (verdicts.Refused why place) = rw (named why .some, named why .back)
 
 -- and the answers that setup gives come back
-pub made-back : setupPaper (setupFrom made) ≡ made
-unfolding setupFrom
-made-back = refl
+pub fine-back : verdictPaper (verdictFrom fine) ≡ fine
+unfolding verdictFrom
+fine-back = refl
 
-pub refused-back : (why : Refusal) (place : ℕ) → setupPaper (setupFrom (setupRefused (numberOf why) place)) ≡ setupRefused (numberOf why) place
-refused-back why place = ap setupPaper (setup-back (setups.Refused why place))
+pub refused-back : (why : Refusal) (place : ℕ) → verdictPaper (verdictFrom (refusedAt (numberOf why) place)) ≡ refusedAt (numberOf why) place
+refused-back why place = ap verdictPaper (verdict-back (verdicts.Refused why place))
 
 arrivalFrom : Answer → ArrivalAnswer
 arrivalFrom a = cond (eqb (a .refusal) 0) arrivals.Accepted (arrivals.Refused (refusalOf (a .refusal)))
@@ -85,5 +103,5 @@ pick-one = one-value pickPaper pickFrom pick-back
 pub arrival-one : (a b : ArrivalAnswer) → arrivalPaper a ≡ arrivalPaper b → a ≡ b
 arrival-one = one-value arrivalPaper arrivalFrom arrival-back
 
-pub setup-one : (a b : SetupAnswer) → setupPaper a ≡ setupPaper b → a ≡ b
-setup-one = one-value setupPaper setupFrom setup-back
+pub verdict-one : (a b : Verdict) → verdictPaper a ≡ verdictPaper b → a ≡ b
+verdict-one = one-value verdictPaper verdictFrom verdict-back

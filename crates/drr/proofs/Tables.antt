@@ -14,7 +14,7 @@ use Rattle.drr.specs.declared.FlowRecord.{FlowRecord}
 use Rattle.drr.specs.State.{quantumOf, maximumOf, freshLine, noFlows}
 use Rattle.drr.specs.Sound.{withinb}
 use Rattle.drr.specs.Facts.{Ranged, Sound}
-use Rattle.drr.specs.Answers.{setupRefused}
+use Rattle.drr.specs.Answers.{refusedAt}
 use Rattle.drr.specs.Setup.{cells, tableFor, flowsAnswer, setupAnswer}
 use Rattle.drr.proofs.Bools.{below?, within-is, or-right}
 
@@ -92,7 +92,7 @@ first-in : (f : ℕ) (x : FlowRecord) (xs : List FlowRecord) → flowsAnswer f (
 first-in f x xs e = go (withinb 1 65535 (x .quantum)) refl (withinb 1 9216 (x .maximum)) refl e
   where
     go : (a : Bool) → withinb 1 65535 (x .quantum) ≡ a → (b : Bool) → withinb 1 9216 (x .maximum) ≡ b →
-        cond (not a) (setupRefused 6 f) (cond (not b) (setupRefused 7 f) (flowsAnswer (f + 1) xs)) .refusal ≡ 0 → InRange x × (flowsAnswer (f + 1) xs .refusal ≡ 0)
+        cond (not a) (refusedAt 6 f) (cond (not b) (refusedAt 7 f) (flowsAnswer (f + 1) xs)) .refusal ≡ 0 → InRange x × (flowsAnswer (f + 1) xs .refusal ≡ 0)
     go true p true q h = (record { quantum = within-is 1 65535 (x .quantum) p; maximum = within-is 1 9216 (x .maximum) q }, h)
     go true p false q h = absurd (omega arith)
     go false p b q h = absurd (omega arith)
@@ -106,7 +106,7 @@ pub made-ranged : (xs : List FlowRecord) → setupAnswer xs .refusal ≡ 0 → R
 unfolding setupAnswer
 made-ranged xs e = go (eqb (length xs) 0 || ltb 16 (length xs)) refl e
   where
-    go : (b : Bool) → (eqb (length xs) 0 || ltb 16 (length xs)) ≡ b → cond b (setupRefused 5 0) (flowsAnswer 0 xs) .refusal ≡ 0 → Ranged (tableFor xs)
+    go : (b : Bool) → (eqb (length xs) 0 || ltb 16 (length xs)) ≡ b → cond b (refusedAt 5 0) (flowsAnswer 0 xs) .refusal ≡ 0 → Ranged (tableFor xs)
     go true p h = absurd (omega arith)
     go false p h =
         let few : length xs ≤ 16 = ltb-false 16 (length xs) (or-right (eqb (length xs) 0) (ltb 16 (length xs)) p) in

@@ -4,13 +4,13 @@ use mathlib.Core.Bool.{Bool, true, false, cond}
 use mathlib.Core.List.{List, [], _∷_}
 use Rattle.drr.specs.declared.State.{State}
 use Rattle.drr.specs.declared.Refusal.{Refusal}
-use Rattle.drr.specs.declared.Refusal.the-variants.{UnknownFlow, NoLength, OverMaximum, RowFull, FlowCount, QuantumRange, MaximumRange, NotSound}
+use Rattle.drr.specs.declared.Refusal.the-variants.{UnknownFlow, NoLength, OverMaximum, RowFull, FlowCount, QuantumRange, MaximumRange, NotSound, FileLength, Reserved, EventCount, TablePlace, TickOrder, ListShort}
 use Rattle.drr.specs.declared.PickAnswer.{PickAnswer}
 use Rattle.drr.specs.declared.PickAnswer.the-variants as picks
 use Rattle.drr.specs.declared.ArrivalAnswer.{ArrivalAnswer}
 use Rattle.drr.specs.declared.ArrivalAnswer.the-variants as arrivals
-use Rattle.drr.specs.declared.SetupAnswer.{SetupAnswer}
-use Rattle.drr.specs.declared.SetupAnswer.the-variants as setups
+use Rattle.drr.specs.declared.Verdict.{Verdict}
+use Rattle.drr.specs.declared.Verdict.the-variants as verdicts
 use Rattle.drr.specs.State.{Line, stateFrom}
 use Rattle.drr.specs.Sound.{soundState}
 
@@ -24,6 +24,12 @@ numberOf FlowCount = 5
 numberOf QuantumRange = 6
 numberOf MaximumRange = 7
 numberOf NotSound = 8
+numberOf FileLength = 9
+numberOf Reserved = 10
+numberOf EventCount = 11
+numberOf TablePlace = 12
+numberOf TickOrder = 13
+numberOf ListShort = 14
 
 -- an answer: its refusal number, 0 where nothing is refused, and its other numbers in the document's order
 pub record Answer : Type 0 where
@@ -60,16 +66,16 @@ abbrev pub arrivalPaper : ArrivalAnswer → Answer
 arrivalPaper arrivals.Accepted = accepted
 arrivalPaper (arrivals.Refused why) = arrivalRefused (numberOf why)
 
--- setup answers the place of the flow at fault, else 0
-abbrev pub made : Answer
-made = answer 0 (0 ∷ [])
+-- "The place is the number, from 0, of the record at fault where a refusal is given record by record .. else 0"
+abbrev pub fine : Answer
+fine = answer 0 (0 ∷ [])
 
-abbrev pub setupRefused : ℕ → ℕ → Answer
-setupRefused number place = answer number (place ∷ [])
+abbrev pub refusedAt : ℕ → ℕ → Answer
+refusedAt number place = answer number (place ∷ [])
 
-abbrev pub setupPaper : SetupAnswer → Answer
-setupPaper setups.Made = made
-setupPaper (setups.Refused why place) = setupRefused (numberOf why) place
+abbrev pub verdictPaper : Verdict → Answer
+verdictPaper verdicts.Fine = fine
+verdictPaper (verdicts.Refused why place) = refusedAt (numberOf why) place
 
 -- an answer beside the line after the call
 pub record Outcome : Type 0 where

@@ -8,7 +8,7 @@ use Rattle.drr.specs.declared.FlowRecord.{FlowRecord}
 use Rattle.drr.specs.declared.Table.{Table}
 use Rattle.drr.specs.State.{tableOf, freshState, emptyTable}
 use Rattle.drr.specs.Sound.{withinb}
-use Rattle.drr.specs.Answers.{Answer, made, setupRefused, Reply, reply}
+use Rattle.drr.specs.Answers.{Answer, fine, refusedAt, Reply, reply}
 
 -- k cells: the number p of the first k records, and zeros after them
 abbrev pub cells : (FlowRecord → ℕ) → ℕ → List FlowRecord → List ℕ
@@ -21,15 +21,15 @@ tableFor xs = tableOf (length xs) (cells (λ r. r .quantum) 16 xs) (cells (λ r.
 
 -- "flow by flow 6 before 7", from the flow f on
 abbrev pub flowsAnswer : ℕ → List FlowRecord → Answer
-flowsAnswer f [] = made
+flowsAnswer f [] = fine
 flowsAnswer f (x ∷ xs) =
-    cond (not (withinb 1 65535 (x .quantum))) (setupRefused 6 f)
-    (cond (not (withinb 1 9216 (x .maximum))) (setupRefused 7 f)
+    cond (not (withinb 1 65535 (x .quantum))) (refusedAt 6 f)
+    (cond (not (withinb 1 9216 (x .maximum))) (refusedAt 7 f)
     (flowsAnswer (f + 1) xs))
 
 -- "flow list of 0 or more than 16", first
 unfoldable pub setupAnswer : List FlowRecord → Answer
-setupAnswer xs = cond (eqb (length xs) 0 || ltb 16 (length xs)) (setupRefused 5 0) (flowsAnswer 0 xs)
+setupAnswer xs = cond (eqb (length xs) 0 || ltb 16 (length xs)) (refusedAt 5 0) (flowsAnswer 0 xs)
 
 -- a refusal "gives the empty table"
 unfoldable pub setupReply : List FlowRecord → Reply

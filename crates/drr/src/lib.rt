@@ -47,7 +47,7 @@ pub enum Found {
     Nothing,
 }
 
-// Why a call is refused; `refusal_number` gives document 01's number.
+// Why something is refused; `refusal_number` gives document 01's number.
 pub enum Refusal {
     UnknownFlow,
     NoLength,
@@ -57,6 +57,12 @@ pub enum Refusal {
     QuantumRange,
     MaximumRange,
     NotSound,
+    FileLength,
+    Reserved,
+    EventCount,
+    TablePlace,
+    TickOrder,
+    ListShort,
 }
 
 // Sent: flow, length, deficit after it, visits opened in this pick.
@@ -71,15 +77,15 @@ pub enum ArrivalAnswer {
     Refused(Refusal),
 }
 
-// Refused: why, and the flow at fault.
-pub enum SetupAnswer {
-    Made,
+// What is judged record by record: why it is refused, and the number of the record at fault.
+pub enum Verdict {
+    Fine,
     Refused(Refusal, usize),
 }
 
 // Each answer beside the state, or the line, after the call.
 pub struct Made {
-    pub answer: SetupAnswer,
+    pub answer: Verdict,
     pub state: State,
 }
 
@@ -115,5 +121,11 @@ pub fn refusal_number(r: Refusal) -> u32
         Refusal::QuantumRange => 6,
         Refusal::MaximumRange => 7,
         Refusal::NotSound => 8,
+        Refusal::FileLength => 9,
+        Refusal::Reserved => 10,
+        Refusal::EventCount => 11,
+        Refusal::TablePlace => 12,
+        Refusal::TickOrder => 13,
+        Refusal::ListShort => 14,
     }
 }

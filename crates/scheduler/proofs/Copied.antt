@@ -16,11 +16,11 @@ use Rattle.scheduler.specs.declared.flows.Copied.{Copied}
 use Rattle.drr.specs.declared.Made.{Made}
 use Rattle.drr.specs.Sound.{withinb}
 use Rattle.drr.specs.State.{freshState, emptyTable}
-use Rattle.drr.specs.Answers.{Answer, setupRefused, setupPaper, Reply, reply}
+use Rattle.drr.specs.Answers.{Answer, refusedAt, verdictPaper, Reply, reply}
 use Rattle.drr.specs.Setup.{cells, tableFor, flowsAnswer, setupAnswer, setupReply, recordsFrom}
 use Rattle.scheduler.specs.Copying.{putOf}
 use Rattle.drr.proofs.Bools.{below?, by-test, or-inr}
-use Rattle.drr.proofs.Papers.{setupFrom, setup-back, made-back, refused-back}
+use Rattle.drr.proofs.Papers.{verdictFrom, verdict-back, fine-back, refused-back}
 use Rattle.drr.proofs.Tables.{none, cell-of}
 use Rattle.scheduler.proofs.Setups.{from-length, list-count}
 
@@ -71,7 +71,7 @@ cells-all p (suc w) (suc i) [] h = refl
 cells-all p (suc w) zero (x ∷ xs) h = absurd (not-suc-le-zero (h (omega arith)))
 cells-all p (suc w) (suc i) (x ∷ xs) h = ap (λ (r : List ℕ). p x ∷ r) (cells-all p w i xs (λ l. omega (arith, h (omega (arith, l)))))
 
-too-many : (xs : List FlowRecord) → 16 < length xs → reply (setupRefused 5 0) emptyTable ≡ setupReply xs
+too-many : (xs : List FlowRecord) → 16 < length xs → reply (refusedAt 5 0) emptyTable ≡ setupReply xs
 too-many xs more = list-count xs (or-inr (eqb (length xs) 0) (ltb 16 (length xs)) (lt-ltb 16 (length xs) more))
 
 pub copied-all : (xs : List FlowRecord) (i : ℕ) → min (length xs) 16 ≤ i →
@@ -86,16 +86,16 @@ copied-all xs i h =
 
 -- ---- the value that a paper answer and a state make
 abbrev pub madeFrom : Reply → Made
-madeFrom z = record { answer = setupFrom (z .answer); state = z .state }
+madeFrom z = record { answer = verdictFrom (z .answer); state = z .state }
 
-pub made-is : (r : Made) (z : Reply) → reply (setupPaper (r .answer)) (r .state) ≡ z → r ≡ madeFrom z
-made-is r z e = λ i. record { answer = (sym (setup-back (r .answer)) ∙ ap (λ (y : Reply). setupFrom (y .answer)) e) i; state = e i .state }
+pub made-is : (r : Made) (z : Reply) → reply (verdictPaper (r .answer)) (r .state) ≡ z → r ≡ madeFrom z
+made-is r z e = λ i. record { answer = (sym (verdict-back (r .answer)) ∙ ap (λ (y : Reply). verdictFrom (y .answer)) e) i; state = e i .state }
 
 abbrev Comes-back : Answer → Type 0
-Comes-back a = setupPaper (setupFrom a) ≡ a
+Comes-back a = verdictPaper (verdictFrom a) ≡ a
 
 flows-back : (f : ℕ) (xs : List FlowRecord) → Comes-back (flowsAnswer f xs)
-flows-back f [] = made-back
+flows-back f [] = fine-back
 flows-back f (x ∷ xs) =
     by-test Comes-back (not (withinb 1 65535 (x .quantum))) (λ _. refused-back QuantumRange f) (λ _.
     by-test Comes-back (not (withinb 1 9216 (x .maximum))) (λ _. refused-back MaximumRange f) (λ _. flows-back (f + 1) xs))
@@ -104,8 +104,8 @@ answer-back : (xs : List FlowRecord) → Comes-back (setupAnswer xs)
 unfolding setupAnswer
 answer-back xs = by-test Comes-back (eqb (length xs) 0 || ltb 16 (length xs)) (λ _. refused-back FlowCount 0) (λ _. flows-back 0 xs)
 
-pub made-meets : (xs : List FlowRecord) → reply (setupPaper (madeFrom (setupReply xs) .answer)) (madeFrom (setupReply xs) .state) ≡ setupReply xs
+pub made-meets : (xs : List FlowRecord) → reply (verdictPaper (madeFrom (setupReply xs) .answer)) (madeFrom (setupReply xs) .state) ≡ setupReply xs
 unfolding setupReply
 made-meets xs =
-    by-test (λ (z : Reply). reply (setupPaper (madeFrom z .answer)) (madeFrom z .state) ≡ z) (eqb (setupAnswer xs .refusal) 0)
+    by-test (λ (z : Reply). reply (verdictPaper (madeFrom z .answer)) (madeFrom z .state) ≡ z) (eqb (setupAnswer xs .refusal) 0)
     (λ _. ap (λ (a : Answer). reply a (freshState (tableFor xs))) (answer-back xs)) (λ _. ap (λ (a : Answer). reply a emptyTable) (answer-back xs))

@@ -13,7 +13,7 @@ use Rattle.drr.specs.declared.FlowRecord.{FlowRecord}
 use Rattle.drr.specs.Sound.{withinb}
 use Rattle.drr.specs.declared.Refusal.{Refusal}
 use Rattle.drr.specs.State.{tableOf, freshState, emptyTable}
-use Rattle.drr.specs.Answers.{numberOf, made, setupRefused, reply}
+use Rattle.drr.specs.Answers.{numberOf, fine, refusedAt, reply}
 use Rattle.drr.specs.Setup.{cells, flowsAnswer, setupAnswer, setupReply, recordsFrom}
 use Rattle.drr.proofs.Bools.{or-right}
 use Rattle.drr.proofs.Papers.{number-some}
@@ -30,18 +30,18 @@ module _ (qs ms : List ℕ) (f c : ℕ) where
   abbrev rest : List FlowRecord
   rest = recordsFrom qs ms f (c - f)
 
-  pub no-more : c ≤ f → flowsAnswer f rest ≡ made
+  pub no-more : c ≤ f → flowsAnswer f rest ≡ fine
   no-more h = let e : c - f ≡ 0 = omega arith in rw e
 
   module _ (more : f < c) where
     one-more : c - f ≡ suc (c - (f + 1))
     one-more = omega arith
 
-    pub bad-quantum : withinb 1 65535 (getD qs f 0) ≡ false → flowsAnswer f rest ≡ setupRefused 6 f
+    pub bad-quantum : withinb 1 65535 (getD qs f 0) ≡ false → flowsAnswer f rest ≡ refusedAt 6 f
     bad-quantum h = rw (one-more, h)
 
     module _ (fine : withinb 1 65535 (getD qs f 0) ≡ true) where
-      pub bad-maximum : withinb 1 9216 (getD ms f 0) ≡ false → flowsAnswer f rest ≡ setupRefused 7 f
+      pub bad-maximum : withinb 1 9216 (getD ms f 0) ≡ false → flowsAnswer f rest ≡ refusedAt 7 f
       bad-maximum h = rw (one-more, fine, h)
 
       pub flow-fine : withinb 1 9216 (getD ms f 0) ≡ true → flowsAnswer f rest ≡ flowsAnswer (f + 1) (recordsFrom qs ms (f + 1) (c - (f + 1)))
@@ -65,7 +65,7 @@ cells-from qs ms p xs is (suc k) f (suc c) h l =
 pub tables : {n : ℕ} {qs qs' ms ms' : List ℕ} → qs ≡ qs' → ms ≡ ms' → tableOf n qs ms ≡ tableOf n qs' ms'
 tables {n} p q = λ i. tableOf n (p i) (q i)
 
-pub list-count : (xs : List FlowRecord) → (eqb (length xs) 0 || ltb 16 (length xs)) ≡ true → reply (setupRefused 5 0) emptyTable ≡ setupReply xs
+pub list-count : (xs : List FlowRecord) → (eqb (length xs) 0 || ltb 16 (length xs)) ≡ true → reply (refusedAt 5 0) emptyTable ≡ setupReply xs
 unfolding setupReply setupAnswer
 list-count xs e = rw e
 
@@ -77,19 +77,19 @@ module _ (qs ms : List ℕ) (c : ℕ) where
   counted : (b : Bool) → (eqb c 0 || ltb 16 c) ≡ b → (eqb (length flows) 0 || ltb 16 (length flows)) ≡ b
   counted b e = rw (from-length qs ms 0 c) e
 
-  pub setup-count : (eqb c 0 || ltb 16 c) ≡ true → reply (setupRefused 5 0) emptyTable ≡ setupReply flows
+  pub setup-count : (eqb c 0 || ltb 16 c) ≡ true → reply (refusedAt 5 0) emptyTable ≡ setupReply flows
   setup-count e = list-count flows (counted true e)
 
   module _ (few : (eqb c 0 || ltb 16 c) ≡ false) where
-    pub setup-bad : (why : Refusal) (place : ℕ) → setupRefused (numberOf why) place ≡ flowsAnswer 0 flows → reply (setupRefused (numberOf why) place) emptyTable ≡ setupReply flows
+    pub setup-bad : (why : Refusal) (place : ℕ) → refusedAt (numberOf why) place ≡ flowsAnswer 0 flows → reply (refusedAt (numberOf why) place) emptyTable ≡ setupReply flows
     unfolding setupReply setupAnswer
     setup-bad why place e = rw (counted false few, ← e, number-some why)
 
     pub count-most : c ≤ 16
     count-most = ltb-false 16 c (or-right (eqb c 0) (ltb 16 c) few)
 
-    pub setup-made : length qs ≡ 16 → length ms ≡ 16 → made ≡ flowsAnswer 0 flows →
-        reply made (freshState (tableOf c (take c qs ++ drop c (replicate 16 0)) (take c ms ++ drop c (replicate 16 0)))) ≡ setupReply flows
+    pub setup-made : length qs ≡ 16 → length ms ≡ 16 → fine ≡ flowsAnswer 0 flows →
+        reply fine (freshState (tableOf c (take c qs ++ drop c (replicate 16 0)) (take c ms ++ drop c (replicate 16 0)))) ≡ setupReply flows
     unfolding setupReply setupAnswer
     setup-made lq lm e =
         rw (counted false few, ← e, from-length qs ms 0 c, cells-from qs ms (λ r. r .quantum) qs (λ i. refl) 16 0 c count-most (omega (arith, count-most)), cells-from qs ms (λ r. r .maximum) ms (λ i. refl) 16 0 c count-most (omega (arith, count-most)))

@@ -7,15 +7,15 @@ use drr::Line;
 use drr::Made;
 use drr::Refusal;
 use drr::Row;
-use drr::SetupAnswer;
 use drr::State;
 use drr::Table;
+use drr::Verdict;
 ghost use mathlib.Core.Path.{_≡_};
 ghost use mathlib.Core.List.{_++_};
 ghost use Prim.Native.Nat.{_-_, _<_, _≤_, min};
 ghost use lib.ListN.{take, drop, replicate};
 ghost use Rattle.drr.specs.State.{freshState, emptyTable};
-ghost use Rattle.drr.specs.Answers.{numberOf, setupRefused, setupPaper, reply};
+ghost use Rattle.drr.specs.Answers.{numberOf, refusedAt, verdictPaper, reply};
 ghost use Rattle.drr.specs.Setup.{recordsFrom, flowsAnswer, setupReply};
 ghost use Rattle.scheduler.specs.Copying.{startedOf, putOf};
 
@@ -50,7 +50,7 @@ fn fresh(table: Table) -> State
 
 // A refusal gives the empty table.
 fn refused(why: Refusal, place: usize) -> Made
-    ensures { λ r. ⌜ reply (setupPaper (r .answer)) (r .state) ≡ reply (setupRefused (numberOf why) place) emptyTable ⌝ }
+    ensures { λ r. ⌜ reply (verdictPaper (r .answer)) (r .state) ≡ reply (refusedAt (numberOf why) place) emptyTable ⌝ }
 {
     let none = Table {
         n: 0,
@@ -59,7 +59,7 @@ fn refused(why: Refusal, place: usize) -> Made
     };
     let state = fresh(none);
     Made {
-        answer: SetupAnswer::Refused(why, place),
+        answer: Verdict::Refused(why, place),
         state: state,
     }
 }
@@ -79,34 +79,34 @@ fn first_cells(cells: [u32; 16], count: usize) -> [u32; 16]
 }
 
 // The first fault, flow by flow, the quantum's before the maximum's.
-fn flows_answer(quanta: &[u32; 16], maxima: &[u32; 16], count: usize) -> SetupAnswer
+fn flows_answer(quanta: &[u32; 16], maxima: &[u32; 16], count: usize) -> Verdict
     requires { ⌜ count ≤ 16 ⌝ }
-    ensures { λ r. ⌜ setupPaper r ≡ flowsAnswer 0 (recordsFrom (now (quanta .entry)) (now (maxima .entry)) 0 count) ⌝ }
+    ensures { λ r. ⌜ verdictPaper r ≡ flowsAnswer 0 (recordsFrom (now (quanta .entry)) (now (maxima .entry)) 0 count) ⌝ }
 {
     let mut f: usize = 0;
     while f < count {
         let quantum = quanta[f];
         if !((1 <= quantum) & (quantum <= 65535)) {
-            return SetupAnswer::Refused(Refusal::QuantumRange, f);
+            return Verdict::Refused(Refusal::QuantumRange, f);
         }
         let maximum = maxima[f];
         if !((1 <= maximum) & (maximum <= 9216)) {
-            return SetupAnswer::Refused(Refusal::MaximumRange, f);
+            return Verdict::Refused(Refusal::MaximumRange, f);
         }
         f += 1;
     }
-    SetupAnswer::Made
+    Verdict::Fine
 }
 
 // Setup of the first `count` flows that stand in the two arrays.
 pub fn setup_of(quanta: [u32; 16], maxima: [u32; 16], count: usize) -> Made
-    ensures { λ r. ⌜ reply (setupPaper (r .answer)) (r .state) ≡ setupReply (recordsFrom quanta maxima 0 count) ⌝ }
+    ensures { λ r. ⌜ reply (verdictPaper (r .answer)) (r .state) ≡ setupReply (recordsFrom quanta maxima 0 count) ⌝ }
 {
     if (count == 0) | (16 < count) {
         return refused(Refusal::FlowCount, 0);
     }
     let answer = flows_answer(&quanta, &maxima, count);
-    if let SetupAnswer::Refused(why, place) = answer {
+    if let Verdict::Refused(why, place) = answer {
         return refused(why, place);
     }
     let used = first_cells(quanta, count);
@@ -117,7 +117,7 @@ pub fn setup_of(quanta: [u32; 16], maxima: [u32; 16], count: usize) -> Made
         maxima: most,
     });
     Made {
-        answer: SetupAnswer::Made,
+        answer: Verdict::Fine,
         state: state,
     }
 }
@@ -170,7 +170,7 @@ fn put(c: Copied, f: FlowRecord) -> Copied
 }
 
 fn finished(c: Copied) -> Made
-    ensures { λ r. ⌜ reply (setupPaper (r .answer)) (r .state) ≡ setupReply (recordsFrom (c .quanta) (c .maxima) 0 (c .count)) ⌝ }
+    ensures { λ r. ⌜ reply (verdictPaper (r .answer)) (r .state) ≡ setupReply (recordsFrom (c .quanta) (c .maxima) 0 (c .count)) ⌝ }
 {
     let quanta = c.quanta;
     let maxima = c.maxima;
@@ -179,7 +179,7 @@ fn finished(c: Copied) -> Made
 
 // Setup of a lent list of any length.
 pub fn setup(list: &[FlowRecord]) -> Made
-    ensures { λ r. ⌜ reply (setupPaper (r .answer)) (r .state) ≡ setupReply (now (list .entry)) ⌝ }
+    ensures { λ r. ⌜ reply (verdictPaper (r .answer)) (r .state) ≡ setupReply (now (list .entry)) ⌝ }
 {
     let mut c = started(list.len());
     while c.at < c.todo {
@@ -191,14 +191,14 @@ pub fn setup(list: &[FlowRecord]) -> Made
 // The first n records of an array, lent to setup.
 fn setup_part(list: [FlowRecord; 17], n: usize) -> Made
     requires { ⌜ n ≤ 17 ⌝ }
-    ensures { λ r. ⌜ reply (setupPaper (r .answer)) (r .state) ≡ setupReply (take n list) ⌝ }
+    ensures { λ r. ⌜ reply (verdictPaper (r .answer)) (r .state) ≡ setupReply (take n list) ⌝ }
 {
     setup(&list[..n])
 }
 
 // The first n records of an array, or all 17, lent to setup: one too many can be tried.
 pub fn setup_first(list: [FlowRecord; 17], n: usize) -> Made
-    ensures { λ r. ⌜ reply (setupPaper (r .answer)) (r .state) ≡ setupReply (take n list) ⌝ }
+    ensures { λ r. ⌜ reply (verdictPaper (r .answer)) (r .state) ≡ setupReply (take n list) ⌝ }
 {
     let k = at_most(n, 17);
     setup_part(list, k)

@@ -6,8 +6,8 @@
 use drr::ArrivalAnswer;
 use drr::FlowRecord;
 use drr::PickAnswer;
-use drr::SetupAnswer;
 use drr::State;
+use drr::Verdict;
 
 fn wide(x: u32) -> u64 {
     x as u64
@@ -102,7 +102,7 @@ fn main() {
     };
     let m = scheduler::flows::setup_first(list, 3);
     let answer = m.answer;
-    if let SetupAnswer::Refused(why, place) = answer {
+    if let Verdict::Refused(why, place) = answer {
         io::write_all(1, b"R");
         field(wide(drr::refusal_number(why)));
         field(number(place));

@@ -5,7 +5,7 @@ use borrow.Author.Needs.{needs}
 use lib.ListN.{length}
 use Rattle.drr.specs.declared.State.{State}
 use Rattle.drr.specs.State.{freshState}
-use Rattle.drr.specs.Answers.{made, setupPaper, reply}
+use Rattle.drr.specs.Answers.{fine, verdictPaper, reply}
 use Rattle.scheduler.proofs.Setups.{setup-count, setup-bad, setup-made, count-most, tables}
 use Rattle.scheduler.proofs.flows.setup_of.Statement.{statement}
 use Rattle.scheduler.proofs.flows.setup_of.Tie as tie
@@ -34,16 +34,16 @@ returns-2 c =
     let e = k .before .before .before .before .before in
     let a = e .before .args in
     c .refused2 .ensures
-    ∙ setup-bad (a .t1) (a .t2) (a .count) (e .if1 .left) (k .answer .given .0 .0) _ (sym (ap setupPaper (k .answer .given .1)) ∙ k .before .before .flows-answer .ensures)
+    ∙ setup-bad (a .t1) (a .t2) (a .count) (e .if1 .left) (k .answer .given .0 .0) _ (sym (ap verdictPaper (k .answer .given .1)) ∙ k .before .before .flows-answer .ensures)
 
 returns-3 : tie.Need-returns-3
 returns-3 c =
     let k = c .before .before .before in
     let e = k .before .before .before .before .before in
     let a = e .before .args in
-    ap (λ (s : State). reply made s) (c .fresh .ensures ∙ ap freshState (tables (c .before .before .first-cells .ensures) (c .before .first-cells2 .ensures)))
+    ap (λ (s : State). reply fine s) (c .fresh .ensures ∙ ap freshState (tables (c .before .before .first-cells .ensures) (c .before .first-cells2 .ensures)))
     ∙ setup-made (a .t1) (a .t2) (a .count) (e .if1 .left) (lengths (e .before) .0) (lengths (e .before) .1)
-    (sym (ap setupPaper (k .enum-told .given .1)) ∙ k .before .before .flows-answer .ensures)
+    (sym (ap verdictPaper (k .enum-told .given .1)) ∙ k .before .before .flows-answer .ensures)
 
 pub setup-of-spec : {M : Type 1} → statement M
 setup-of-spec =

@@ -42,7 +42,7 @@ use denote.Triple.Spec.{Meets, tripleOf}
 use denote.Triple.Table.{entered, cited}
 use denote.Triple.Walked.{says, needs, Stays, stay-none, walkOf, ends-at, walked, goes-none, walk-meets}
 use denote.Exit.{yes}
-use Rattle.drr.specs.Answers.{setupPaper, reply}
+use Rattle.drr.specs.Answers.{verdictPaper, reply}
 use Rattle.drr.specs.Setup.{setupReply}
 use Rattle.drr.specs.declared.FlowRecord.{FlowRecord}
 use Rattle.drr.specs.declared.Made.{Made}
@@ -94,7 +94,7 @@ module _ {M : Type 1} (𝓤 : URA M) (H : Heap 𝓤) (A : Atoms 𝓤) (W : Given
 
     -- what the contract says of the result
     abbrev Told : Made → Type 0
-    Told r = reply (setupPaper (r .answer)) (r .state) ≡ setupReply front
+    Told r = reply (verdictPaper (r .answer)) (r .state) ≡ setupReply front
 
     abbrev Post : Val → SProp 𝓤
     Post = walkOf 𝓤 H A setup-part.ended stayed (setup-part.clauses 𝓤 H A mem run) .post ((tt, tt, tt, (xs, (k, tt)), at), tt)
