@@ -10,6 +10,7 @@ pub mod Tables
 pub mod Keeps
 pub mod Papers
 pub mod Sums
+pub mod Figures
 pub mod States
 pub mod Calls
 pub mod Claims
