@@ -1,0 +1,2 @@
+-- Laws that several functions' proofs cite, and the claims.
+pub mod Laws
