@@ -15,17 +15,17 @@ use Rattle.drr.specs.declared.SetupAnswer.{SetupAnswer}
 use Rattle.drr.specs.declared.SetupAnswer.the-variants as setups
 use Rattle.drr.specs.Answers.{numberOf, Answer, made, setupRefused, pickPaper, arrivalPaper, setupPaper}
 
-refusalOf : ℕ → Refusal
+pub refusalOf : ℕ → Refusal
 refusalOf k =
     cond (eqb k 1) UnknownFlow (cond (eqb k 2) NoLength (cond (eqb k 3) OverMaximum (cond (eqb k 4) RowFull
     (cond (eqb k 5) FlowCount (cond (eqb k 6) QuantumRange (cond (eqb k 7) MaximumRange NotSound))))))
 
 -- a refusal's number tells which it is, and is never 0
-record Named (why : Refusal) : Type 0 where
-  back : refusalOf (numberOf why) ≡ why
-  some : eqb (numberOf why) 0 ≡ false
+pub record Named (why : Refusal) : Type 0 where
+  pub back : refusalOf (numberOf why) ≡ why
+  pub some : eqb (numberOf why) 0 ≡ false
 
-named : (why : Refusal) → Named why
+pub named : (why : Refusal) → Named why
 unfolding refusalOf
 named UnknownFlow = record { back = refl; some = refl }
 named NoLength = record { back = refl; some = refl }
@@ -76,7 +76,7 @@ pick-back (picks.Sent flow length deficit visits) = refl
 pick-back (picks.Refused why) = rw (named why .some, named why .back)
 
 -- two values with one paper answer are one value
-one-value : {A : Type 0} (paper : A → Answer) (from : Answer → A) → ((a : A) → from (paper a) ≡ a) → (a b : A) → paper a ≡ paper b → a ≡ b
+pub one-value : {A : Type 0} (paper : A → Answer) (from : Answer → A) → ((a : A) → from (paper a) ≡ a) → (a b : A) → paper a ≡ paper b → a ≡ b
 one-value paper from back a b e = sym (back a) ∙ ap from e ∙ back b
 
 pub pick-one : (a b : PickAnswer) → pickPaper a ≡ pickPaper b → a ≡ b

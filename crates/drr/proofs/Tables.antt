@@ -18,7 +18,7 @@ use Rattle.drr.specs.Answers.{setupRefused}
 use Rattle.drr.specs.Setup.{cells, tableFor, flowsAnswer, setupAnswer}
 use Rattle.drr.proofs.Bools.{below?, within-is, or-right}
 
-zero-at : (n f : ℕ) → getD {A = ℕ} (replicate n 0) f 0 ≡ 0
+pub zero-at : (n f : ℕ) → getD {A = ℕ} (replicate n 0) f 0 ≡ 0
 zero-at zero f = refl
 zero-at (suc n) zero = refl
 zero-at (suc n) (suc f) = zero-at n f

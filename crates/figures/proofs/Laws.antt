@@ -4,7 +4,7 @@ use mathlib.Core.Bool.{Bool, true, false, not}
 use Prim.Native.Nat.{ℕ, _+_, _*_, _-_, _/_, _≤_, _<_}
 use native.Mathlib.Nat.{mul-le-mul, add-div-right}
 use native.Mathlib.Omega.{arith}
-use lib.Dec.{leb}
+use borrow.Author.Tests.{le-leb, lt-leb}
 use Rattle.drr.specs.declared.Table.{Table}
 use Rattle.drr.specs.declared.State.{State}
 use Rattle.drr.specs.State.{quantumOf, maximumOf}
@@ -44,15 +44,26 @@ module _ {Q l F L : ℕ} (m : Limited Q l F L) where
 pub lag-most : {T : Table} → Ranged T → (i : ℕ) → i < T .n → lag T i ≤ 88044437520
 lag-most r i l = let m = limited r i l in omega (arith, left-most m, right-most m)
 
--- ---- the figures as the code computes them
-pub owed-up : {T : Table} → Ranged T → (i : ℕ) → i < T .n → (S : ℕ) → (quantumOf T i * S - lag T i + (allQuanta T - 1)) / allQuanta T ≡ owed T i S
-owed-up {T} r i l S = sym (owed-formula T i (quanta-some T i l (r .quantum-in i l .0)) S)
+-- ---- the figures as the code computes them, from numbers that it read of the table
+module _ {T : Table} (r : Ranged T) (i : ℕ) (low : i < T .n) where
+  module _ {Q l F L : ℕ} (q : Q ≡ quantumOf T i) (m : l ≡ maximumOf T i) (f : F ≡ allQuanta T) (e : L ≡ allMaxima T) where
+    pub read-limited : Limited Q l F L
+    read-limited = rw (q, m, f, e) (limited r i low)
 
-pub wait-up : {T : Table} → Ranged T → (i : ℕ) → i < T .n → (lag T i + 1 + (quantumOf T i - 1)) / quantumOf T i ≡ wait T i
-wait-up {T} r i l =
-    let q = r .quantum-in i l .0 in
-    let e : lag T i + 1 + (quantumOf T i - 1) ≡ lag T i + quantumOf T i = omega arith in
-    ap (λ (x : ℕ). x / quantumOf T i) e ∙ add-div-right (lag T i) q ∙ sym (wait-formula T i (quanta-some T i l q) q)
+    pub read-lag : Q * (L - l) + (F - Q) * (Q + l) ≡ lag T i
+    read-lag = rw (q, m, f, e)
+
+  some : 0 < allQuanta T
+  some = quanta-some T i low (r .quantum-in i low .0)
+
+  pub read-owed : (S : ℕ) {Q F C B D : ℕ} → Q ≡ quantumOf T i → F ≡ allQuanta T → C ≡ lag T i → B ≡ S → D ≡ Q * B - C → (D + (F - 1)) / F ≡ owed T i S
+  read-owed S q f c b d = rw (d, q, f, c, b) (sym (owed-formula T i some S))
+
+  pub read-wait : {Q C : ℕ} → Q ≡ quantumOf T i → C ≡ lag T i → (C + 1 + (Q - 1)) / Q ≡ wait T i
+  read-wait {Q} {C} q c =
+      let pos = r .quantum-in i low .0 in
+      let e : C + 1 + (Q - 1) ≡ lag T i + quantumOf T i = omega arith in
+      rw (e, q) (add-div-right (lag T i) pos ∙ sym (wait-formula T i some pos))
 
 -- ---- a figure's answer, where r is what the soundness test told
 module _ (s : State) (flow value : ℕ) (r : Bool) (told : r ≡ soundState s) where
@@ -61,10 +72,10 @@ module _ (s : State) (flow value : ℕ) (r : Bool) (told : r ≡ soundState s) w
   unsound-figure bad = rw (refuted told bad)
 
   module _ (fine : not r ≡ false) where
-    pub unknown-figure : leb (s .table .n) flow ≡ true → figureRefused 1 ≡ figureAnswer s flow value
+    pub unknown-figure : s .table .n ≤ flow → figureRefused 1 ≡ figureAnswer s flow value
     unfolding figureAnswer
-    unknown-figure past = rw (passed told fine, past)
+    unknown-figure past = rw (passed told fine, le-leb (s .table .n) flow past)
 
-    pub known-figure : leb (s .table .n) flow ≡ false → (v : ℕ) → v ≡ value → figureIs v ≡ figureAnswer s flow value
+    pub known-figure : flow < s .table .n → (v : ℕ) → v ≡ value → figureIs v ≡ figureAnswer s flow value
     unfolding figureAnswer
-    known-figure within v is = rw (passed told fine, within, is)
+    known-figure within v is = rw (passed told fine, lt-leb (s .table .n) flow within, is)
