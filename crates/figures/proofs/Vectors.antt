@@ -103,38 +103,18 @@ unfolding setupAnswer
 twins-ranged = made-ranged twins refl
 
 -- ---- the claim
+also : {A B : Type 0} → A → B → A × B
+also a b = (a, b)
+
 pub p1-to-p12 : Every rows
-p1-to-p12 = (
-  refl,
-  (
-    refl,
-    (
-      refl,
-      (
-        waits worked-ranged 0 (omega arith) refl,
-        (
-          waits worked-ranged 1 (omega arith) refl,
-          (
-            waits worked-ranged 2 (omega arith) refl,
-            (
-              owes worked-ranged 0 (omega arith) 3220 refl,
-              (
-                owes worked-ranged 0 (omega arith) 3221 refl,
-                (
-                  owes worked-ranged 0 (omega arith) 10000 refl,
-                  (
-                    (owes alone-ranged 0 (omega arith) 7 refl, waits alone-ranged 0 (omega arith) refl),
-                    (
-                      (waits twins-ranged 0 (omega arith) refl, waits twins-ranged 1 (omega arith) refl),
-                      (fresh-idle worked-ranged, tt),
-                    ),
-                  ),
-                ),
-              ),
-            ),
-          ),
-        ),
-      ),
-    ),
-  ),
-)
+p1-to-p12 =
+    also refl (also refl (also refl
+    (also (waits worked-ranged 0 (omega arith) refl)
+    (also (waits worked-ranged 1 (omega arith) refl)
+    (also (waits worked-ranged 2 (omega arith) refl)
+    (also (owes worked-ranged 0 (omega arith) 3220 refl)
+    (also (owes worked-ranged 0 (omega arith) 3221 refl)
+    (also (owes worked-ranged 0 (omega arith) 10000 refl)
+    (also (also (owes alone-ranged 0 (omega arith) 7 refl) (waits alone-ranged 0 (omega arith) refl))
+    (also (also (waits twins-ranged 0 (omega arith) refl) (waits twins-ranged 1 (omega arith) refl))
+    (also (fresh-idle worked-ranged) tt)))))))))))
