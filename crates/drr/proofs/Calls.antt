@@ -16,13 +16,15 @@ use Rattle.drr.specs.State.{Line, deficitOf, due, lineIn, stateFrom, fre
 use Rattle.drr.specs.Sound.{soundState}
 use Rattle.drr.specs.Facts.{Ranged, Sound, SoundState, ShapedState}
 use Rattle.drr.specs.Answers.{Answer, idle, Outcome, outcome, Reply, reply, pickRefused, guarded}
-use Rattle.drr.specs.Pick.{next, openAt, closed, emptied}
+use Rattle.drr.specs.Pick.{next, openAt, closed, emptied, idles, starts}
 use Rattle.drr.specs.Computed.{serve, turn, lookFor, enough, carryOn, readyb, pickAt, pickOf, pickReply}
 use Rattle.drr.specs.Setup.{tableFor, setupAnswer, setupReply}
 use Rattle.drr.proofs.Bools.{by-test, dec}
 use Rattle.drr.proofs.Facts.{sound-is, of-sound}
+use Rattle.drr.proofs.Search.{first-empty}
+use Rattle.drr.proofs.One.{pick-only}
 use Rattle.drr.proofs.States.{state-back, line-back, guarded-sound, guarded-not}
-use Rattle.drr.proofs.Tables.{fresh-sound, no-flows-ranged, made-ranged}
+use Rattle.drr.proofs.Tables.{zero-at, fresh-sound, no-flows-ranged, made-ranged}
 use Rattle.drr.proofs.Keeps.{pick-keeps, idle-again}
 
 -- ---- the state made of a sound line is sound
@@ -84,6 +86,15 @@ pick-fine T l = at-open (l .opened)
     at-open : (b : Bool) → Fine (pickAt T b l)
     at-open true = on-test (readyb l (l .place))
     at-open false = look-fine T enough 0 l
+
+-- ---- a pick from a fresh state
+pub fresh-idle : {T : Table} → Ranged T → pickReply (freshState T) ≡ reply idle (freshState T)
+fresh-idle {T} r =
+    let l = freshLine (T .n) in
+    let none = first-empty (T .n) (l .counts) (T .n) (l .place) (zero-at 16) in
+    guarded-sound (freshState T) (pickRefused 8) _ (of-sound T _ (fresh-state-sound r))
+    ∙ ap (λ (k : Line). reply (pickOf T k .answer) (stateFrom T (pickOf T k .line))) (line-back T l)
+    ∙ ap (λ (o : Outcome). reply (o .answer) (stateFrom T (o .line))) (sym (pick-only T l (fresh-sound r) idle l (starts refl (idles none))))
 
 -- ---- a second idle pick
 pub idle-still : (s : State) → ShapedState s → pickReply s .answer ≡ idle → pickReply (pickReply s .state) ≡ reply idle (pickReply s .state)

@@ -9,6 +9,8 @@ pub mod One
 pub mod Tables
 pub mod Keeps
 pub mod Papers
+pub mod States
+pub mod Calls
 pub mod Sums
 pub mod Figures
 pub mod Stretches
@@ -17,6 +19,4 @@ pub mod Order
 pub mod Round
 pub mod Bounds
 pub mod Service
-pub mod States
-pub mod Calls
 pub mod Demand3

@@ -15,7 +15,7 @@ use Rattle.drr.specs.declared.Verdict.{Verdict}
 use Rattle.drr.specs.declared.Verdict.the-variants as verdicts
 use Rattle.drr.specs.Answers.{numberOf, Answer, fine, refusedAt, pickPaper, arrivalPaper, verdictPaper}
 
-refusalOf : ℕ → Refusal
+pub refusalOf : ℕ → Refusal
 refusalOf k =
     cond (eqb k 1) UnknownFlow
     (cond (eqb k 2) NoLength
@@ -33,11 +33,11 @@ refusalOf k =
     ListShort))))))))))))
 
 -- a refusal's number tells which it is, and is never 0
-record Named (why : Refusal) : Type 0 where
-  back : refusalOf (numberOf why) ≡ why
-  some : eqb (numberOf why) 0 ≡ false
+pub record Named (why : Refusal) : Type 0 where
+  pub back : refusalOf (numberOf why) ≡ why
+  pub some : eqb (numberOf why) 0 ≡ false
 
-named : (why : Refusal) → Named why
+pub named : (why : Refusal) → Named why
 unfolding refusalOf
 named UnknownFlow = record { back = refl; some = refl }
 named NoLength = record { back = refl; some = refl }
@@ -94,7 +94,7 @@ pick-back (picks.Sent flow length deficit visits) = refl
 pick-back (picks.Refused why) = rw (named why .some, named why .back)
 
 -- two values with one paper answer are one value
-one-value : {A : Type 0} (paper : A → Answer) (from : Answer → A) → ((a : A) → from (paper a) ≡ a) → (a b : A) → paper a ≡ paper b → a ≡ b
+pub one-value : {A : Type 0} (paper : A → Answer) (from : Answer → A) → ((a : A) → from (paper a) ≡ a) → (a b : A) → paper a ≡ paper b → a ≡ b
 one-value paper from back a b e = sym (back a) ∙ ap from e ∙ back b
 
 pub pick-one : (a b : PickAnswer) → pickPaper a ≡ pickPaper b → a ≡ b

@@ -28,6 +28,12 @@ unfolding firstOf
 first-none n w zero f h = refl
 first-none n w (suc k) f h = absurd (omega arith)
 
+-- with nothing waiting none is found
+pub first-empty : (n : ℕ) (w : List ℕ) (k f : ℕ) → ((g : ℕ) → getD w g 0 ≡ 0) → firstOf n w k f ≡ Nothing
+unfolding firstOf
+first-empty n w zero f h = refl
+first-empty n w (suc k) f h = rw (h (after n f)) (first-empty n w k (after n f) h)
+
 pub after-in : (n f : ℕ) → 0 < n → after n f < n
 after-in n f h = by-test (λ (g : ℕ). g < n) (ltb (f + 1) n) (λ e. ltb-true (f + 1) n e) (λ _. h)
 

@@ -8,17 +8,17 @@ use native.Mathlib.Nat.{not-suc-le-zero}
 use native.Mathlib.Omega.{arith}
 use borrow.Author.Tests.{ltb-false}
 use lib.Dec.{ltb, eqb}
-use lib.ListN.{length, getD, replicate, getD-replicate}
+use lib.ListN.{length, getD, replicate, getD-replicate, List·getD-eq-default}
 use Rattle.drr.specs.declared.Table.{Table}
 use Rattle.drr.specs.declared.FlowRecord.{FlowRecord}
-use Rattle.drr.specs.State.{quantumOf, maximumOf, freshLine, noFlows}
+use Rattle.drr.specs.State.{Line, quantumOf, maximumOf, freshLine, noFlows}
 use Rattle.drr.specs.Sound.{withinb}
 use Rattle.drr.specs.Facts.{Ranged, Sound}
 use Rattle.drr.specs.Answers.{refusedAt}
 use Rattle.drr.specs.Setup.{cells, tableFor, flowsAnswer, setupAnswer}
 use Rattle.drr.proofs.Bools.{below?, within-is, or-right}
 
-zero-at : (n f : ℕ) → getD {A = ℕ} (replicate n 0) f 0 ≡ 0
+pub zero-at : (n f : ℕ) → getD {A = ℕ} (replicate n 0) f 0 ≡ 0
 zero-at zero f = refl
 zero-at (suc n) zero = refl
 zero-at (suc n) (suc f) = zero-at n f
@@ -49,6 +49,20 @@ fresh-sound {T} r = record {
     waiting = λ k x y. absurd (omega arith);
     rest = λ k x y. zero-at 32 k;
   });
+}
+
+-- the table of a sound line is within setup's limits
+pub sound-ranged : {T : Table} {l : Line} → Sound T l → Ranged T
+sound-ranged {T} {l} ok = record {
+  quanta-length = ok .shape .quanta-length;
+  maxima-length = ok .shape .maxima-length;
+  flows-few = ok .flows-few;
+  quantum-in = λ f k. let u = ok .flows f (omega arith) .used k in (u .quantum-least, u .quantum-most);
+  maximum-in = λ f k. let u = ok .flows f (omega arith) .used k in (u .maximum-least, u .maximum-most);
+  unused-zero = λ f k. ⊎-elim
+      (λ low. let u = ok .flows f low .unused k in (u .no-quantum, u .no-maximum))
+      (λ past. (List·getD-eq-default (T .quanta) 0 (omega (arith, ok .shape .quanta-length)), List·getD-eq-default (T .maxima) 0 (omega (arith, ok .shape .maxima-length))))
+      (below? f 16);
 }
 
 pub no-flows-ranged : Ranged noFlows
