@@ -53,6 +53,14 @@ use Rattle.scheduler.proofs.flows.setup_of.Statement as setup-of
 use Rattle.scheduler.proofs.flows.setup_of.Met as setup-of-met
 use Rattle.scheduler.proofs.flows.setup_first.Statement as setup-first
 use Rattle.scheduler.proofs.flows.setup_first.Met as setup-first-met
+use Rattle.figures.specs.declared.Figure.{Figure}
+use Rattle.figures.specs.Answers.{figurePaper, owedAnswer, waitAnswer}
+use Rattle.figures.proofs.Claims as figure-claims
+use Rattle.figures.proofs.Vectors.{Every, rows, p1-to-p12}
+use Rattle.figures.proofs.owed.Statement as owed-says
+use Rattle.figures.proofs.owed.Met as owed-met
+use Rattle.figures.proofs.wait.Statement as wait-says
+use Rattle.figures.proofs.wait.Met as wait-met
 
 -- ---- DEMANDS 1 AND 2, the calls: each takes any numbers and any state, ends, and answers as its definition says.
 -- A function's `statement` is that it returns from every call and then meets the contract in its source, which here asks nothing of the caller.
@@ -76,6 +84,12 @@ setup-of-meets = setup-of-met.met
 
 pub setup-first-meets : {M : Type 1} → setup-first.statement M
 setup-first-meets = setup-first-met.met
+
+pub owed-meets : {M : Type 1} → owed-says.statement M
+owed-meets = owed-met.met
+
+pub wait-meets : {M : Type 1} → wait-says.statement M
+wait-meets = wait-met.met
 
 -- ---- DEMAND 1, soundness, as a test and as facts
 -- every State that the code can hold has its arrays' lengths ..
@@ -131,6 +145,9 @@ arrival-answers-apart = papers.arrival-one
 pub verdicts-apart : (a b : Verdict) → verdictPaper a ≡ verdictPaper b → a ≡ b
 verdicts-apart = papers.verdict-one
 
+pub figure-answers-apart : (a b : Figure) → figurePaper a ≡ figurePaper b → a ≡ b
+figure-answers-apart = figure-claims.figure-apart
+
 -- ---- DEMANDS 1 AND 2: no second answer, state or place meets a contract. (`refusal_number`, `sound`, `sound_line` and `engine::sound_in` promise an equation for the result itself.)
 pub one-pick : (s : State) (r t : Picked) →
     reply (pickPaper (r .answer)) (r .state) ≡ pickReply s → reply (pickPaper (t .answer)) (t .state) ≡ pickReply s → r ≡ t
@@ -171,6 +188,12 @@ one-book n maxima counts rows f length a b cs ds xs ys p q =
     let e = p [] [] spot ∙ sym (q [] [] spot) in
     (papers.arrival-one a b (ap (λ (z : Outcome). z .answer) e), ap (λ (z : Outcome). z .line .counts) e, ap (λ (z : Outcome). z .line .rows) e)
 
+pub one-owed : (s : State) (flow S : ℕ) (r t : Figure) → figurePaper r ≡ owedAnswer s flow S → figurePaper t ≡ owedAnswer s flow S → r ≡ t
+one-owed = figure-claims.one-owed
+
+pub one-wait : (s : State) (flow : ℕ) (r t : Figure) → figurePaper r ≡ waitAnswer s flow → figurePaper t ≡ waitAnswer s flow → r ≡ t
+one-wait = figure-claims.one-wait
+
 -- ---- DEMAND 3, the floor: `Floor` is the statement, in crates/drr/specs/Floor.antt
 pub the-floor : Floor
 the-floor = demand3.demand-3
@@ -195,3 +218,7 @@ wait-is-least = figures.wait-least
 -- "With one flow C is 0 and owed(S) is S."
 pub one-flow : (T : Table) → T .n ≡ 1 → 0 < quantumOf T 0 → (lag T 0 ≡ 0) × ((S : ℕ) → owed T 0 S ≡ S)
 one-flow T one some = (figures.one-flow-lag T one some, figures.one-flow-owed T one some)
+
+-- ---- document 01's P1 to P12: the table `rows`, in crates/figures/proofs/Vectors.antt, and that every row of it holds
+pub document-table : Every rows
+document-table = p1-to-p12
