@@ -17,6 +17,7 @@ pub mod Stretches
 pub mod Ranks
 pub mod Order
 pub mod Round
+pub mod Waiting
 pub mod Bounds
 pub mod Service
 pub mod Demand3

@@ -21,7 +21,7 @@ abbrev pub total : List ℕ → ℕ
 total [] = 0
 total (x ∷ xs) = x + total xs
 
-total-set : (l : List ℕ) (i v : ℕ) → i < length l → total (set l i v) + getD l i 0 ≡ total l + v
+pub total-set : (l : List ℕ) (i v : ℕ) → i < length l → total (set l i v) + getD l i 0 ≡ total l + v
 total-set [] i v h = absurd (omega arith)
 total-set (x ∷ xs) zero v h = omega arith
 total-set (x ∷ xs) (suc i) v h = omega (arith, total-set xs i v (omega arith))

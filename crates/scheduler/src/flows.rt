@@ -49,7 +49,7 @@ fn fresh(table: Table) -> State
 }
 
 // A refusal gives the empty table.
-fn refused(why: Refusal, place: usize) -> Made
+pub fn refused(why: Refusal, place: usize) -> Made
     ensures { λ r. ⌜ reply (verdictPaper (r .answer)) (r .state) ≡ reply (refusedAt (numberOf why) place) emptyTable ⌝ }
 {
     let none = Table {

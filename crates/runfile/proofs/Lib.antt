@@ -1,0 +1,6 @@
+-- Laws that several functions' proofs cite.
+pub mod Files
+pub mod Lines
+pub mod Going
+pub mod Whole
+pub mod Claims

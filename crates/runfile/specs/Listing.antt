@@ -1,0 +1,63 @@
+-- "The run file and its listing": the listing is a reading of the run's calls.
+use mathlib.Core.Bool.{Bool, true, false, cond}
+use mathlib.Core.List.{List, [], _∷_, _++_}
+use Prim.Native.Nat.{ℕ, _+_, _*_}
+use lib.Dec.{eqb}
+use lib.ListN.{length, take, drop}
+use Rattle.drr.specs.declared.Table.{Table}
+use Rattle.drr.specs.State.{Line, charge, freshLine}
+use Rattle.drr.specs.Answers.{Answer, Outcome}
+use Rattle.runfile.specs.declared.turns.Tally.{Tally}
+use Rattle.runfile.specs.File.{Event, eventCount, eventsIn, runAnswer}
+use Rattle.runfile.specs.Run.{Act, comes, asks, outcomeOf, tableIn, runOf}
+
+-- packets sent, events refused, and the tick of line 3, so far
+abbrev pub tally : ℕ → ℕ → ℕ → Tally
+tally sent refused last = record { sent = sent; refused = refused; last = last }
+
+-- "2, the event's tick, flow, length, refusal number, 0", of an event that is refused
+abbrev pub dropLine : ℕ → ℕ → ℕ → ℕ → List ℕ
+dropLine tick flow length refusal = cond (eqb refusal 0) [] (2 ∷ tick ∷ flow ∷ length ∷ refusal ∷ 0 ∷ [])
+
+-- "1, start tick, flow, length, deficit after, visits", of a pick that sends
+abbrev pub startLine : ℕ → List ℕ → List ℕ
+startLine tick [] = []
+startLine tick (flow ∷ more) = 1 ∷ tick ∷ flow ∷ more
+
+abbrev pub lineFor : Act → Answer → List ℕ
+lineFor (comes tick flow length) a = dropLine tick flow length (a .refusal)
+lineFor (asks tick) a = startLine tick (a .numbers)
+
+-- "The tick of line 3 is the end of the last packet sent; refused events after it don't move it. On a run without any sending it is the latest event's tick, or 0 with no event."
+abbrev pub afterEvent : ℕ → ℕ → Tally → Tally
+afterEvent tick refusal y = tally (y .sent) (cond (eqb refusal 0) (y .refused) (y .refused + 1)) (cond (eqb (y .sent) 0) tick (y .last))
+
+abbrev pub afterPick : ℕ → List ℕ → Tally → Tally
+afterPick tick [] y = y
+afterPick tick (flow ∷ []) y = y
+afterPick tick (flow ∷ length ∷ more) y = tally (y .sent + 1) (y .refused) (tick + charge length)
+
+abbrev pub afterAct : Act → Answer → Tally → Tally
+afterAct (comes tick flow length) a y = afterEvent tick (a .refusal) y
+afterAct (asks tick) a y = afterPick tick (a .numbers) y
+
+-- the lines of the calls, six numbers each, and line 3
+unfoldable pub listing : Table → List Act → Line → Tally → List ℕ
+listing T [] l y = 3 ∷ y .last ∷ y .sent ∷ y .refused ∷ 0 ∷ 0 ∷ []
+listing T (k ∷ ks) l y =
+    lineFor k (outcomeOf T l k .answer) ++ listing T ks (outcomeOf T l k .line) (afterAct k (outcomeOf T l k .answer) y)
+
+-- the listing of these events on a fresh line of the table
+abbrev pub eventsListing : Table → List Event → List ℕ
+eventsListing T es = listing T (runOf T es) (freshLine (T .n)) (tally 0 0 0)
+
+abbrev pub runListing : List ℕ → List ℕ
+runListing b = eventsListing (tableIn b) (eventsIn b)
+
+-- a lent list with the numbers v in the place of as many from line k on
+abbrev pub written : List ℕ → ℕ → List ℕ → List ℕ
+written out k v = take (6 * k) out ++ v ++ drop (6 * k + length v) out
+
+-- "what follows them stays"; a refused run writes nothing into the lent list
+unfoldable pub filled : List ℕ → List ℕ → List ℕ
+filled b out = cond (eqb (runAnswer b (length out) .refusal) 0) (runListing b ++ drop (6 * (eventCount b + 1)) out) out

@@ -1,0 +1,175 @@
+// The run of a file's events: the engine's booking and pick over local arrays, and a line written for
+// each packet sent and each event refused.
+use super::reader::le2;
+use super::reader::le4;
+use drr::ArrivalAnswer;
+use drr::PickAnswer;
+use drr::Spot;
+ghost use mathlib.Core.Path.{_≡_};
+ghost use mathlib.Core.Bool.{cond};
+ghost use mathlib.Core.List.{_++_, _∷_, []};
+ghost use Prim.Native.Nat.{ℕ, _+_, _*_, _-_, _≤_, _<_};
+ghost use lib.ListN.{length, drop};
+ghost use Rattle.drr.specs.State.{tableOf};
+ghost use Rattle.drr.specs.Facts.{Ranged};
+ghost use Rattle.drr.specs.Answers.{arrivalPaper};
+ghost use Rattle.runfile.specs.File.{eventsFrom};
+ghost use Rattle.runfile.specs.Listing.{tally, dropLine, afterEvent, written, eventsListing};
+
+// Packets sent, events refused, and the tick of line 3, so far.
+pub struct Tally {
+    pub sent: usize,
+    pub refused: usize,
+    pub last: usize,
+}
+
+fn wide(x: u32) -> usize
+    ensures { λ r. ⌜ r ≡ x ⌝ }
+{
+    x as usize
+}
+
+fn either(test: bool, a: usize, b: usize) -> usize
+    ensures { λ r. ⌜ r ≡ cond test a b ⌝ }
+{
+    if test { a } else { b }
+}
+
+// Line k of the lent list.
+fn put_line(out: &mut [u64], k: usize, a: usize, b: usize, c: usize, d: usize, e: usize, f: usize)
+    requires { ⌜ (6 * k + 6 ≤ length (now out)) × (k ≤ 1024) ⌝ }
+    ensures { λ _. ⌜ now (out .exit) ≡ written (now (out .entry)) k (a ∷ b ∷ c ∷ d ∷ e ∷ f ∷ []) ⌝ }
+{
+    let at = 6 * k;
+    out[at] = a as u64;
+    out[at + 1] = b as u64;
+    out[at + 2] = c as u64;
+    out[at + 3] = d as u64;
+    out[at + 4] = e as u64;
+    out[at + 5] = f as u64;
+}
+
+// A refused event gives line k. Answers the refusal's number, 0 if it was accepted.
+fn note(
+    out: &mut [u64],
+    k: usize,
+    tick: usize,
+    flow: usize,
+    len: usize,
+    answer: ArrivalAnswer,
+) -> u32
+    requires { ⌜ (6 * k + 6 ≤ length (now out)) × (k ≤ 1024) ⌝ }
+    ensures { λ r. ⌜ (r ≡ arrivalPaper answer .refusal) × (now (out .exit) ≡ written (now (out .entry)) k (dropLine tick flow len (arrivalPaper answer .refusal))) ⌝ }
+{
+    match answer {
+        ArrivalAnswer::Accepted => 0,
+        ArrivalAnswer::Refused(why) => {
+            let number = drr::refusal_number(why);
+            put_line(out, k, 2, tick, flow, len, wide(number), 0);
+            number
+        }
+    }
+}
+
+// The count after an event that was accepted (0) or refused.
+fn after_event(y: Tally, tick: usize, refusal: u32) -> Tally
+    requires { ⌜ y .refused < 1000000 ⌝ }
+    ensures { λ r. ⌜ r ≡ afterEvent tick refusal y ⌝ }
+{
+    let refused = either(refusal == 0, y.refused, y.refused + 1);
+    let last = either(y.sent == 0, tick, y.last);
+    Tally {
+        sent: y.sent,
+        refused: refused,
+        last: last,
+    }
+}
+
+// The count after a packet that is sent until the tick `end`.
+fn after_send(y: Tally, end: usize) -> Tally
+    requires { ⌜ y .sent < 1000000 ⌝ }
+    ensures { λ r. ⌜ r ≡ tally (y .sent + 1) (y .refused) end ⌝ }
+{
+    Tally {
+        sent: y.sent + 1,
+        refused: y.refused,
+        last: end,
+    }
+}
+
+// The run of the m events that stand at the start of a part of the file, from tick 0 and a fresh line,
+// into a lent list with room for its lines.
+pub fn run_events(
+    t: &[u8],
+    m: usize,
+    n: usize,
+    quanta: &[u32; 16],
+    maxima: &[u32; 16],
+    out: &mut [u64],
+)
+    requires { ⌜ (8 * m ≤ length (now t)) × (m ≤ 1024) ⌝ }
+    requires { ⌜ Ranged (tableOf n (now quanta) (now maxima)) × (1 ≤ n) ⌝ }
+    requires { ⌜ 6 * (m + 1) ≤ length (now out) ⌝ }
+    ensures { λ _. ⌜ now (out .exit) ≡ eventsListing (tableOf n (now (quanta .entry)) (now (maxima .entry))) (eventsFrom (now (t .entry)) 0 m) ++ drop (6 * (m + 1)) (now (out .entry)) ⌝ }
+{
+    let mut counts = [0u8; 16];
+    let mut deficits = [0u32; 16];
+    let mut rows = [[0u16; 32]; 16];
+    let mut spot = Spot {
+        place: n - 1,
+        opened: false,
+    };
+    let mut y = Tally {
+        sent: 0,
+        refused: 0,
+        last: 0,
+    };
+    let mut now: usize = 0;
+    let mut at: usize = 0;
+    loop {
+        if at < m {
+            let tick = le4(t, 8 * at);
+            if tick <= now {
+                let flow = le2(t, 8 * at + 4);
+                let len = le2(t, 8 * at + 6);
+                let answer = engine::book(n, maxima, &mut counts, &mut rows, flow, len as u32);
+                let refusal = note(out, y.sent + y.refused, tick, flow, len, answer);
+                y = after_event(y, tick, refusal);
+                at += 1;
+                continue;
+            }
+        }
+        let p = engine::pick_in(
+            n,
+            quanta,
+            maxima,
+            &mut counts,
+            &mut deficits,
+            &mut rows,
+            spot,
+        );
+        spot = p.spot;
+        let answer = p.answer;
+        let PickAnswer::Sent(flow, len, deficit, visits) = answer else {
+            if m <= at {
+                put_line(out, y.sent + y.refused, 3, y.last, y.sent, y.refused, 0, 0);
+                return;
+            }
+            now = le4(t, 8 * at);
+            continue;
+        };
+        let size = wide(len);
+        put_line(
+            out,
+            y.sent + y.refused,
+            1,
+            now,
+            flow,
+            size,
+            wide(deficit),
+            wide(visits),
+        );
+        now += size;
+        y = after_send(y, now);
+    }
+}
