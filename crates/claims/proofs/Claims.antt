@@ -1,9 +1,10 @@
--- What is proved, on one page: the three demands, each claim as a statement with the name of its proof. The definitions that the statements speak of stand in crates/drr/specs.
+-- What is proved, on one page: the three demands, each claim as a statement with the name of its proof. The definitions that the statements speak of stand in crates/drr/specs and, for a run, crates/runfile/specs.
 use mathlib.Core.Path.{_≡_, sym, ap, _∙_}
 use mathlib.Core.Bool.{true}
-use mathlib.Core.List.{List, []}
+use mathlib.Core.List.{List, [], _∷_, _++_}
 use mathlib.Core.Logic.{_↔_, _≢_}
 use Prim.Native.Nat.{ℕ, _+_, _*_, _-_, _≤_, _<_}
+use lib.ListN.{length}
 use mir.Val.{Val}
 use denote.Laws.{Is}
 use Rattle.drr.specs.declared.Table.{Table}
@@ -18,7 +19,7 @@ use Rattle.drr.specs.declared.ArrivalAnswer.{ArrivalAnswer}
 use Rattle.drr.specs.declared.Verdict.{Verdict}
 use Rattle.drr.specs.declared.FlowRecord.{FlowRecord}
 use Rattle.drr.specs.declared.Made.{Made}
-use Rattle.drr.specs.State.{Line, quantumOf, maximumOf, lineIn, emptyTable}
+use Rattle.drr.specs.State.{Line, quantumOf, maximumOf, lineIn, stateFrom, freshLine, freshState, emptyTable}
 use Rattle.drr.specs.Sound.{soundb}
 use Rattle.drr.specs.Facts.{Shaped, Sound, SoundState, ShapedState}
 use Rattle.drr.specs.Answers.{Answer, idle, pickPaper, arrivalPaper, verdictPaper, Outcome, outcome, Reply, reply}
@@ -27,7 +28,7 @@ use Rattle.drr.specs.Pick.{Picks}
 use Rattle.drr.specs.Computed.{pickOf, pickReply}
 use Rattle.drr.specs.Setup.{setupReply}
 use Rattle.drr.specs.Figures.{allQuanta, lag, owed, wait}
-use Rattle.drr.specs.Floor.{Call, afterCalls, bytesSent, flowSent, WaitsAtPicks, Floor}
+use Rattle.drr.specs.Floor.{Call, replyTo, afterCalls, bytesSent, flowSent, WaitsAtPicks, Floor}
 use Rattle.drr.proofs.State as state
 use Rattle.drr.proofs.Facts.{sound-is, of-sound}
 use Rattle.drr.proofs.Shape.{shaped}
@@ -53,6 +54,16 @@ use Rattle.scheduler.proofs.flows.setup_of.Statement as setup-of
 use Rattle.scheduler.proofs.flows.setup_of.Met as setup-of-met
 use Rattle.scheduler.proofs.flows.setup_first.Statement as setup-first
 use Rattle.scheduler.proofs.flows.setup_first.Met as setup-first-met
+use Rattle.runfile.specs.declared.turns.Tally.{Tally}
+use Rattle.runfile.specs.File.{eventCount, eventsIn, fileAnswer, readReply, runAnswer}
+use Rattle.runfile.specs.Run.{Act, due, outcomeOf, Timed, bookedIn, lineAfter, callIn, callsIn, tableIn, runCalls}
+use Rattle.runfile.specs.Listing.{tally, tallyAfter, endLine, linesOf, ends, ticksOf, lastOf, runListing, filled}
+use Rattle.runfile.proofs.Claims as run-claims
+use Rattle.runfile.proofs.Counts.{act-is-call}
+use Rattle.runfile.proofs.reader.read.Statement as read-says
+use Rattle.runfile.proofs.reader.read.Met as read-met
+use Rattle.runfile.proofs.run.Statement as run-says
+use Rattle.runfile.proofs.run.Met as run-met
 use Rattle.figures.specs.declared.Figure.{Figure}
 use Rattle.figures.specs.Answers.{figurePaper, owedAnswer, waitAnswer}
 use Rattle.figures.proofs.Claims as figure-claims
@@ -90,6 +101,13 @@ owed-meets = owed-met.met
 
 pub wait-meets : {M : Type 1} → wait-says.statement M
 wait-meets = wait-met.met
+
+-- any bytes at all, and any lent list
+pub read-meets : {M : Type 1} → read-says.statement M
+read-meets = read-met.met
+
+pub run-meets : {M : Type 1} → run-says.statement M
+run-meets = run-met.met
 
 -- ---- DEMAND 1, soundness, as a test and as facts
 -- every State that the code can hold has its arrays' lengths ..
@@ -222,3 +240,59 @@ one-flow T one some = (figures.one-flow-lag T one some, figures.one-flow-owed T 
 -- ---- document 01's P1 to P12: the table `rows`, in crates/figures/proofs/Vectors.antt, and that every row of it holds
 pub document-table : Every rows
 document-table = p1-to-p12
+
+-- ---- DEMANDS 1 AND 2, the run: one answer, one state, one content of the lent list
+pub one-read : (b : List ℕ) (r t : Made) →
+    reply (verdictPaper (r .answer)) (r .state) ≡ readReply b → reply (verdictPaper (t .answer)) (t .state) ≡ readReply b → r ≡ t
+one-read = run-claims.one-read
+
+pub one-run : (b out : List ℕ) (r t : Verdict) (o p : List ℕ) →
+    (verdictPaper r ≡ runAnswer b (length out)) × (o ≡ filled b out) → (verdictPaper t ≡ runAnswer b (length out)) × (p ≡ filled b out) → (r ≡ t) × (o ≡ p)
+one-run = run-claims.one-run
+
+-- each call of a run is the public one on the state made of its line
+pub run-calls-public : (T : Table) (l : Line) → Sound T l → (k : Act) → replyTo (stateFrom T l) (callIn k) ≡ reply (outcomeOf T l k .answer) (stateFrom T (outcomeOf T l k .line))
+run-calls-public = act-is-call
+
+-- ---- the run of any file that is not refused: its calls are timed as document 01 says, book every event in order, and no other list of calls does both
+module _ (b : List ℕ) (ok : fileAnswer b .refusal ≡ 0) where
+  pub run-is-timed : Timed (tableIn b) 0 (due 0) (runCalls b) (freshLine (tableIn b .n))
+  run-is-timed = run-claims.file-timed b ok
+
+  pub run-books-all : bookedIn (runCalls b) ≡ eventsIn b
+  run-books-all = run-claims.file-books b ok
+
+  pub run-is-only : (ks : List Act) → Timed (tableIn b) 0 (due 0) ks (freshLine (tableIn b .n)) → bookedIn ks ≡ eventsIn b → ks ≡ runCalls b
+  run-is-only = run-claims.file-only b ok
+
+  -- it stays sound, and DEMAND 3 holds along it
+  pub run-stays-sound : (ks : List Act) → Sound (tableIn b) (lineAfter (tableIn b) ks (freshLine (tableIn b .n)))
+  run-stays-sound = run-claims.file-sound b ok
+
+  pub run-floor : (before stretch : List Act) (i : ℕ) → i < tableIn b .n → WaitsAtPicks (afterCalls (freshState (tableIn b)) (callsIn before)) (callsIn stretch) i →
+      owed (tableIn b) i (bytesSent (afterCalls (freshState (tableIn b)) (callsIn before)) (callsIn stretch))
+      ≤ flowSent (afterCalls (freshState (tableIn b)) (callsIn before)) (callsIn stretch) i
+  run-floor = run-claims.file-floor b ok
+
+  -- what line 3 tells: S lines and D lines together are the events, and the listing has six numbers for each and for line 3
+  abbrev lineThree : Tally
+  lineThree = tallyAfter (tableIn b) (runCalls b) (freshLine (tableIn b .n)) (tally 0 0 0)
+
+  pub one-line-each : lineThree .sent + lineThree .refused ≡ eventCount b
+  one-line-each = run-claims.file-lines b ok
+
+  pub listing-is : runListing b ≡ linesOf (tableIn b) (runCalls b) (freshLine (tableIn b .n)) ++ endLine lineThree
+  listing-is = run-claims.file-listing b ok
+
+  pub listing-length : length (runListing b) ≡ 6 * (eventCount b + 1)
+  listing-length = run-claims.file-length b ok
+
+  -- its tick, in document 01's three cases: `ends` are the ends of the packets sent, in their order
+  pub line-3-sent : (e : ℕ) (es : List ℕ) → ends (tableIn b) (runCalls b) (freshLine (tableIn b .n)) ≡ e ∷ es → lineThree .last ≡ lastOf e es
+  line-3-sent = run-claims.tick-sent b ok
+
+  pub line-3-unsent : ends (tableIn b) (runCalls b) (freshLine (tableIn b .n)) ≡ [] → lineThree .last ≡ lastOf 0 (ticksOf (eventsIn b))
+  line-3-unsent = run-claims.tick-unsent b ok
+
+  pub line-3-no-event : eventCount b ≡ 0 → lineThree .last ≡ 0
+  line-3-no-event = run-claims.tick-no-event b ok

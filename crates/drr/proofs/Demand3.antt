@@ -131,7 +131,7 @@ module _ (T : Table) {Fit : Line → Type 0} {rank : Line → ℕ → ℕ} (O : 
         (omega (arith, floor-sharp, lag-mono (T .n) (quantumOf T) (λ j. maximumOf T j - 1) (maximumOf T) i i<n (λ j k. omega arith)))
 
 -- ---- from lines to states
-reply-is : (T : Table) (l : Line) → Sound T l → (c : Call) → replyTo (stateFrom T l) c ≡ reply (callOf T l c .answer) (stateFrom T (callOf T l c .line))
+pub reply-is : (T : Table) (l : Line) → Sound T l → (c : Call) → replyTo (stateFrom T l) c ≡ reply (callOf T l c .answer) (stateFrom T (callOf T l c .line))
 reply-is T l ok c = go c
   where
     good : soundState (stateFrom T l) ≡ true

@@ -58,7 +58,7 @@ module _ (t : List ℕ) (m at : ℕ) where
   left-more : at < m → left ≡ eventAt t at ∷ eventsFrom t (at + 1) (m - (at + 1))
   left-more h = let e : m - at ≡ suc (m - (at + 1)) = omega arith in rw e
 
-events-length : (t : List ℕ) (at k : ℕ) → length (eventsFrom t at k) ≡ k
+pub events-length : (t : List ℕ) (at k : ℕ) → length (eventsFrom t at k) ≡ k
 events-length t at zero = refl
 events-length t at (suc k) = ap suc (events-length t (at + 1) k)
 

@@ -3,4 +3,6 @@ pub mod Files
 pub mod Lines
 pub mod Going
 pub mod Whole
+pub mod Runs
+pub mod Counts
 pub mod Claims

@@ -7,6 +7,8 @@ use lib.ListN.{length, take, drop}
 use Rattle.drr.specs.declared.Table.{Table}
 use Rattle.drr.specs.State.{Line, charge, freshLine}
 use Rattle.drr.specs.Answers.{Answer, Outcome}
+use Rattle.drr.specs.Arrival.{arrivalOf}
+use Rattle.drr.specs.Computed.{pickOf}
 use Rattle.runfile.specs.declared.turns.Tally.{Tally}
 use Rattle.runfile.specs.File.{Event, eventCount, eventsIn, runAnswer}
 use Rattle.runfile.specs.Run.{Act, comes, asks, outcomeOf, tableIn, runOf}
@@ -41,11 +43,45 @@ abbrev pub afterAct : Act → Answer → Tally → Tally
 afterAct (comes tick flow length) a y = afterEvent tick (a .refusal) y
 afterAct (asks tick) a y = afterPick tick (a .numbers) y
 
+-- the count after the calls: line 3 tells it
+abbrev pub tallyAfter : Table → List Act → Line → Tally → Tally
+tallyAfter T [] l y = y
+tallyAfter T (k ∷ ks) l y = tallyAfter T ks (outcomeOf T l k .line) (afterAct k (outcomeOf T l k .answer) y)
+
+-- "3, tick when the line fell free, packets sent, events refused, 0, 0"
+abbrev pub endLine : Tally → List ℕ
+endLine y = 3 ∷ y .last ∷ y .sent ∷ y .refused ∷ 0 ∷ 0 ∷ []
+
 -- the lines of the calls, six numbers each, and line 3
 unfoldable pub listing : Table → List Act → Line → Tally → List ℕ
-listing T [] l y = 3 ∷ y .last ∷ y .sent ∷ y .refused ∷ 0 ∷ 0 ∷ []
+listing T [] l y = endLine y
 listing T (k ∷ ks) l y =
     lineFor k (outcomeOf T l k .answer) ++ listing T ks (outcomeOf T l k .line) (afterAct k (outcomeOf T l k .answer) y)
+
+-- the lines that come before line 3
+abbrev pub linesOf : Table → List Act → Line → List ℕ
+linesOf T [] l = []
+linesOf T (k ∷ ks) l = lineFor k (outcomeOf T l k .answer) ++ linesOf T ks (outcomeOf T l k .line)
+
+-- the ends of the packets sent, in their order
+abbrev pub endOf : ℕ → List ℕ → List ℕ
+endOf tick [] = []
+endOf tick (flow ∷ []) = []
+endOf tick (flow ∷ length ∷ more) = (tick + charge length) ∷ []
+
+abbrev pub ends : Table → List Act → Line → List ℕ
+ends T [] l = []
+ends T (comes tick flow length ∷ ks) l = ends T ks (arrivalOf T l flow length .line)
+ends T (asks tick ∷ ks) l = endOf tick (pickOf T l .answer .numbers) ++ ends T ks (pickOf T l .line)
+
+-- the events' ticks, and the last number of a list, d for an empty one
+abbrev pub ticksOf : List Event → List ℕ
+ticksOf [] = []
+ticksOf (e ∷ es) = e .tick ∷ ticksOf es
+
+abbrev pub lastOf : ℕ → List ℕ → ℕ
+lastOf d [] = d
+lastOf d (x ∷ xs) = lastOf x xs
 
 -- the listing of these events on a fresh line of the table
 abbrev pub eventsListing : Table → List Event → List ℕ

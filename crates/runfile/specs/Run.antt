@@ -11,6 +11,7 @@ use Rattle.drr.specs.Answers.{Answer, Outcome}
 use Rattle.drr.specs.Arrival.{arrivalOf}
 use Rattle.drr.specs.Computed.{pickOf}
 use Rattle.drr.specs.Setup.{tableFor}
+use Rattle.drr.specs.Floor.{Call, arrives, picks}
 use Rattle.runfile.specs.File.{Event, flowsIn, eventsIn}
 
 -- a call at its tick: an event is booked (tick, flow, length), or a pick is made
@@ -49,6 +50,20 @@ abbrev pub bookedIn : List Act → List Event
 bookedIn [] = []
 bookedIn (comes tick flow length ∷ ks) = record { tick = tick; flow = flow; length = length } ∷ bookedIn ks
 bookedIn (asks tick ∷ ks) = bookedIn ks
+
+-- the line after the calls
+abbrev pub lineAfter : Table → List Act → Line → Line
+lineAfter T [] l = l
+lineAfter T (k ∷ ks) l = lineAfter T ks (outcomeOf T l k .line)
+
+-- the calls without their ticks, as demand 3 speaks of them
+abbrev pub callIn : Act → Call
+callIn (comes tick flow length) = arrives flow length
+callIn (asks tick) = picks
+
+abbrev pub callsIn : List Act → List Call
+callsIn [] = []
+callsIn (k ∷ ks) = callIn k ∷ callsIn ks
 
 -- the calls that these events make, at most k of them
 unfoldable pub calls : ℕ → Table → Clock → List Event → Line → List Act

@@ -1,0 +1,130 @@
+-- What a run's lines tell: one for each event, then line 3 with its tick; and that the run's calls are the public ones.
+use mathlib.Core.Path.{_≡_, refl, sym, ap, _∙_}
+use mathlib.Core.Bool.{Bool, true, false, cond}
+use mathlib.Core.List.{List, [], _∷_, _++_, append-assoc}
+use Prim.Native.Nat.{ℕ, _+_, _*_, _<_}
+use native.Mathlib.Omega.{arith}
+use borrow.Author.Tests.{eqb-true}
+use lib.Dec.{eqb}
+use lib.ListN.{length, length-append}
+use Rattle.drr.specs.declared.Table.{Table}
+use Rattle.drr.specs.State.{Line, charge, stateFrom}
+use Rattle.drr.specs.Facts.{Sound}
+use Rattle.drr.specs.Answers.{Answer, reply}
+use Rattle.drr.specs.Arrival.{arrivalOf}
+use Rattle.drr.specs.Computed.{pickOf}
+use Rattle.drr.specs.Floor.{arrives, picks, replyTo}
+use Rattle.drr.proofs.Bools.{by-test}
+use Rattle.drr.proofs.Keeps.{arrival-keeps, pick-keeps}
+use Rattle.drr.proofs.Waiting.{waitingAll, PickedAs, idled, gave, pick-as}
+use Rattle.drr.proofs.Demand3.{reply-is}
+use Rattle.runfile.specs.declared.turns.Tally.{Tally}
+use Rattle.runfile.specs.Run.{Act, comes, asks, outcomeOf, bookedIn, lineAfter, callIn}
+use Rattle.runfile.specs.Listing.{tally, dropLine, startLine, lineFor, afterEvent, afterPick, afterAct, tallyAfter, endLine, linesOf, listing, endOf, ends, ticksOf, lastOf}
+use Rattle.runfile.proofs.Going.{lines, arrival-waits}
+
+-- a call on the line is document 01's call on the state made of it
+pub act-is-call : (T : Table) (l : Line) → Sound T l → (k : Act) → replyTo (stateFrom T l) (callIn k) ≡ reply (outcomeOf T l k .answer) (stateFrom T (outcomeOf T l k .line))
+act-is-call T l ok (comes tick flow length) = reply-is T l ok (arrives flow length)
+act-is-call T l ok (asks tick) = reply-is T l ok picks
+
+-- ---- one call: its line, the count after it, and the packets that wait
+event-counts : (y : Tally) (b : Bool) → y .sent + cond b (y .refused) (y .refused + 1) + cond b 1 0 ≡ lines y + 1
+event-counts y true = omega arith
+event-counts y false = omega arith
+
+event-line : (y : Tally) (tick flow len r : ℕ) (b : Bool) → length (cond b [] (2 ∷ tick ∷ flow ∷ len ∷ r ∷ 0 ∷ [])) + 6 * lines y ≡ 6 * (y .sent + cond b (y .refused) (y .refused + 1))
+event-line y tick flow len r true = omega arith
+event-line y tick flow len r false = omega arith
+
+pick-counts : (t : ℕ) (y : Tally) (l : Line) (a : Answer) (l' : Line) → PickedAs l a l' → lines (afterPick t (a .numbers) y) + waitingAll l' ≡ lines y + waitingAll l
+pick-counts t y l a l' (idled e x z) = rw e (omega (arith, x, z))
+pick-counts t y l a l' (gave f len d v e less most) = rw e (omega (arith, less))
+
+pick-line : (t : ℕ) (y : Tally) (l : Line) (a : Answer) (l' : Line) → PickedAs l a l' → length (startLine t (a .numbers)) + 6 * lines y ≡ 6 * lines (afterPick t (a .numbers) y)
+pick-line t y l a l' (idled e x z) = rw e (omega arith)
+pick-line t y l a l' (gave f len d v e less most) = rw e (omega arith)
+
+module _ (T : Table) where
+  -- ---- at every point, the lines written and the packets that wait are the events booked
+  pub each-one : (ks : List Act) (l : Line) (y : Tally) → Sound T l → lines (tallyAfter T ks l y) + waitingAll (lineAfter T ks l) ≡ lines y + waitingAll l + length (bookedIn ks)
+  each-one [] l y ok = omega arith
+  each-one (comes a f n ∷ ks) l y ok =
+      omega (
+        arith,
+        each-one ks (arrivalOf T l f n .line) (afterEvent a (arrivalOf T l f n .answer .refusal) y) (arrival-keeps T l ok f n),
+        arrival-waits T l ok f n,
+        event-counts y (eqb (arrivalOf T l f n .answer .refusal) 0),
+      )
+  each-one (asks t ∷ ks) l y ok =
+      omega (
+        arith,
+        each-one ks (pickOf T l .line) (afterPick t (pickOf T l .answer .numbers) y) (pick-keeps T l ok),
+        pick-counts t y l (pickOf T l .answer) (pickOf T l .line) (pick-as T l ok),
+      )
+
+  -- ---- the listing is the calls' lines and line 3, six numbers each
+  pub listing-is : (ks : List Act) (l : Line) (y : Tally) → listing T ks l y ≡ linesOf T ks l ++ endLine (tallyAfter T ks l y)
+  unfolding listing
+  listing-is [] l y = refl
+  listing-is (k ∷ ks) l y =
+      ap (λ (xs : List ℕ). lineFor k (outcomeOf T l k .answer) ++ xs) (listing-is ks (outcomeOf T l k .line) (afterAct k (outcomeOf T l k .answer) y))
+      ∙ sym (append-assoc (lineFor k (outcomeOf T l k .answer)) (linesOf T ks (outcomeOf T l k .line)) (endLine (tallyAfter T ks (outcomeOf T l k .line) (afterAct k (outcomeOf T l k .answer) y))))
+
+  pub lines-length : (ks : List Act) (l : Line) (y : Tally) → Sound T l → length (linesOf T ks l) + 6 * lines y ≡ 6 * lines (tallyAfter T ks l y)
+  lines-length [] l y ok = omega arith
+  lines-length (comes a f n ∷ ks) l y ok =
+      simp length-append (omega (
+        arith,
+        lines-length ks (arrivalOf T l f n .line) (afterEvent a (arrivalOf T l f n .answer .refusal) y) (arrival-keeps T l ok f n),
+        event-line y a f n (arrivalOf T l f n .answer .refusal) (eqb (arrivalOf T l f n .answer .refusal) 0),
+      ))
+  lines-length (asks t ∷ ks) l y ok =
+      simp length-append (omega (
+        arith,
+        lines-length ks (pickOf T l .line) (afterPick t (pickOf T l .answer .numbers) y) (pick-keeps T l ok),
+        pick-line t y l (pickOf T l .answer) (pickOf T l .line) (pick-as T l ok),
+      ))
+
+  -- ---- line 3 counts the packets sent ..
+  pub ends-count : (ks : List Act) (l : Line) (y : Tally) → tallyAfter T ks l y .sent ≡ y .sent + length (ends T ks l)
+  ends-count [] l y = omega arith
+  ends-count (comes a f n ∷ ks) l y = ends-count ks (arrivalOf T l f n .line) (afterEvent a (arrivalOf T l f n .answer .refusal) y)
+  ends-count (asks t ∷ ks) l y = go (pickOf T l .answer .numbers) (ends-count ks (pickOf T l .line))
+    where
+      go : (ns : List ℕ) → ((z : Tally) → tallyAfter T ks (pickOf T l .line) z .sent ≡ z .sent + length (ends T ks (pickOf T l .line))) →
+          tallyAfter T ks (pickOf T l .line) (afterPick t ns y) .sent ≡ y .sent + length (endOf t ns ++ ends T ks (pickOf T l .line))
+      go [] on = on y
+      go (f ∷ []) on = on y
+      go (f ∷ len ∷ more) on = omega (arith, on (tally (y .sent + 1) (y .refused) (t + charge len)))
+
+  -- ---- .. and its tick: the end of the last packet sent ..
+  past : (s a b : ℕ) → 0 < s → cond (eqb s 0) a b ≡ b
+  past s a b some = by-test (λ (x : ℕ). x ≡ b) (eqb s 0) (λ e. absurd (omega (arith, eqb-true s 0 e))) (λ _. refl)
+
+  sent-last : (ks : List Act) (l : Line) (y : Tally) → 0 < y .sent → tallyAfter T ks l y .last ≡ lastOf (y .last) (ends T ks l)
+  sent-last [] l y some = refl
+  sent-last (comes a f n ∷ ks) l y some =
+      sent-last ks (arrivalOf T l f n .line) (afterEvent a (arrivalOf T l f n .answer .refusal) y) some
+      ∙ ap (λ (x : ℕ). lastOf x (ends T ks (arrivalOf T l f n .line))) (past (y .sent) a (y .last) some)
+  sent-last (asks t ∷ ks) l y some = go (pickOf T l .answer .numbers) (sent-last ks (pickOf T l .line))
+    where
+      go : (ns : List ℕ) → ((z : Tally) → 0 < z .sent → tallyAfter T ks (pickOf T l .line) z .last ≡ lastOf (z .last) (ends T ks (pickOf T l .line))) →
+          tallyAfter T ks (pickOf T l .line) (afterPick t ns y) .last ≡ lastOf (y .last) (endOf t ns ++ ends T ks (pickOf T l .line))
+      go [] on = on y some
+      go (f ∷ []) on = on y some
+      go (f ∷ len ∷ more) on = on (tally (y .sent + 1) (y .refused) (t + charge len)) (omega arith)
+
+  -- .. or, where none was sent, the tick of the latest event
+  pub last-is : (ks : List Act) (l : Line) (y : Tally) → y .sent ≡ 0 → tallyAfter T ks l y .last ≡ lastOf (lastOf (y .last) (ticksOf (bookedIn ks))) (ends T ks l)
+  last-is [] l y none = refl
+  last-is (comes a f n ∷ ks) l y none =
+      last-is ks (arrivalOf T l f n .line) (afterEvent a (arrivalOf T l f n .answer .refusal) y) none
+      ∙ ap (λ (s : ℕ). lastOf (lastOf (cond (eqb s 0) a (y .last)) (ticksOf (bookedIn ks))) (ends T ks (arrivalOf T l f n .line))) none
+  last-is (asks t ∷ ks) l y none = go (pickOf T l .answer .numbers) (last-is ks (pickOf T l .line) y none)
+    where
+      go : (ns : List ℕ) → tallyAfter T ks (pickOf T l .line) y .last ≡ lastOf (lastOf (y .last) (ticksOf (bookedIn ks))) (ends T ks (pickOf T l .line)) →
+          tallyAfter T ks (pickOf T l .line) (afterPick t ns y) .last ≡ lastOf (lastOf (y .last) (ticksOf (bookedIn ks))) (endOf t ns ++ ends T ks (pickOf T l .line))
+      go [] on = on
+      go (f ∷ []) on = on
+      go (f ∷ len ∷ more) on = sent-last ks (pickOf T l .line) (tally (y .sent + 1) (y .refused) (t + charge len)) (omega arith)
