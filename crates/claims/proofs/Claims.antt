@@ -57,13 +57,17 @@ use Rattle.scheduler.proofs.flows.setup_first.Met as setup-first-met
 use Rattle.runfile.specs.declared.turns.Tally.{Tally}
 use Rattle.runfile.specs.File.{eventCount, eventsIn, fileAnswer, readReply, runAnswer}
 use Rattle.runfile.specs.Run.{Act, due, outcomeOf, Timed, bookedIn, lineAfter, callIn, callsIn, tableIn, runCalls}
-use Rattle.runfile.specs.Listing.{tally, tallyAfter, endLine, linesOf, ends, ticksOf, lastOf, runListing, filled}
+use Rattle.runfile.specs.Listing.{tally, tallyAfter, endLine, linesOf, ends, ticksOf, lastOf, acceptedTo, sentTo, runListing, filled}
 use Rattle.runfile.proofs.Claims as run-claims
 use Rattle.runfile.proofs.Counts.{act-is-call}
 use Rattle.runfile.proofs.reader.read.Statement as read-says
 use Rattle.runfile.proofs.reader.read.Met as read-met
 use Rattle.runfile.proofs.run.Statement as run-says
 use Rattle.runfile.proofs.run.Met as run-met
+use Rattle.text.proofs.listing_text.Statement as listing-text-says
+use Rattle.text.proofs.listing_text.Met as listing-text-met
+use Rattle.text.proofs.refusal_text.Statement as refusal-text-says
+use Rattle.text.proofs.refusal_text.Met as refusal-text-met
 use Rattle.figures.specs.declared.Figure.{Figure}
 use Rattle.figures.specs.Answers.{figurePaper, owedAnswer, waitAnswer}
 use Rattle.figures.proofs.Claims as figure-claims
@@ -108,6 +112,12 @@ read-meets = read-met.met
 
 pub run-meets : {M : Type 1} → run-says.statement M
 run-meets = run-met.met
+
+pub listing-text-meets : {M : Type 1} → listing-text-says.statement M
+listing-text-meets = listing-text-met.met
+
+pub refusal-text-meets : {M : Type 1} → refusal-text-says.statement M
+refusal-text-meets = refusal-text-met.met
 
 -- ---- DEMAND 1, soundness, as a test and as facts
 -- every State that the code can hold has its arrays' lengths ..
@@ -280,6 +290,11 @@ module _ (b : List ℕ) (ok : fileAnswer b .refusal ≡ 0) where
 
   pub one-line-each : lineThree .sent + lineThree .refused ≡ eventCount b
   one-line-each = run-claims.file-lines b ok
+
+  -- each accepted event has its own S line: a flow's packets are sent in the order of its accepted events, each once
+  pub in-turn : (i : ℕ) → i < tableIn b .n →
+      acceptedTo (tableIn b) (runCalls b) (freshLine (tableIn b .n)) i ≡ sentTo (tableIn b) (runCalls b) (freshLine (tableIn b .n)) i
+  in-turn = run-claims.file-in-turn b ok
 
   pub listing-is : runListing b ≡ linesOf (tableIn b) (runCalls b) (freshLine (tableIn b .n)) ++ endLine lineThree
   listing-is = run-claims.file-listing b ok

@@ -166,7 +166,7 @@ same T l ok (c ∷ cs) = go c (reply-is T l ok c) (same T (callOf T l c .line) (
     }
 
 -- ---- demand 3, in document 01's order
-placed : {T : Table} {l : Line} {i : ℕ} → Sound T l → i < T .n → Placed T l
+pub placed : {T : Table} {l : Line} {i : ℕ} → Sound T l → i < T .n → Placed T l
 placed ok i<n = ⊎-elim (λ p. p) (λ q. absurd (omega (arith, q .0))) (ok .placed)
 
 -- the stretch that follows some calls on the state made of a sound line is one on a sound line

@@ -21,3 +21,4 @@ pub mod Waiting
 pub mod Bounds
 pub mod Service
 pub mod Demand3
+pub mod Rows

@@ -19,7 +19,7 @@ use Rattle.drr.specs.Pick.{next, openAt, closed, emptied, sent, Ready, L
 use Rattle.drr.specs.Pick.Looks.{idles, sends, passes}
 use Rattle.drr.specs.Pick.Picks.{goes-on, closes, starts}
 use Rattle.drr.specs.Figures.{total}
-use Rattle.drr.specs.Floor.{sentIn, bytesIn}
+use Rattle.drr.specs.Floor.{givenIn, sentIn, bytesIn}
 use Rattle.drr.proofs.Bools.{same?}
 use Rattle.drr.proofs.Steps.{found-in, grown, before, visit-passes, place-in, open-below, on-ends}
 use Rattle.drr.proofs.Sums.{total-none, total-one}
@@ -31,12 +31,6 @@ use Rattle.drr.proofs.Bounds.{Bounded, due-within, closed-below, not-op
 -- the lengths that wait in flow i, oldest first
 abbrev pub lengthsIn : Line → ℕ → List ℕ
 lengthsIn l i = take (waitingOf l i) (rowOf l i)
-
--- the lengths that an answer says were sent to flow i
-abbrev pub givenIn : List ℕ → ℕ → List ℕ
-givenIn [] i = []
-givenIn (flow ∷ []) i = []
-givenIn (flow ∷ len ∷ more) i = cond (eqb flow i) (len ∷ []) []
 
 -- sending takes the first of them
 take-first : (row : List ℕ) (c : ℕ) → 0 < c → c ≤ length row → take c row ≡ getD row 0 0 ∷ take (c - 1) (shiftedOf row)

@@ -1,5 +1,5 @@
 -- Demand 3, the floor, as one statement: while a flow has packets waiting, the least it receives out of the bytes on the line.
-use mathlib.Core.Bool.{Bool, true, false, cond}
+use mathlib.Core.Bool.{Bool, true, false, cond, _&&_}
 use mathlib.Core.List.{List, [], _∷_}
 use Prim.Native.Nat.{ℕ, _+_, _≤_, _<_}
 use lib.Dec.{eqb}
@@ -32,7 +32,17 @@ sentIn [] i = 0
 sentIn (flow ∷ []) i = 0
 sentIn (flow ∷ length ∷ rest) i = cond (eqb flow i) (charge length) 0
 
--- .. and in all
+-- .. and their lengths
+abbrev pub givenIn : List ℕ → ℕ → List ℕ
+givenIn [] i = []
+givenIn (flow ∷ []) i = []
+givenIn (flow ∷ length ∷ rest) i = cond (eqb flow i) (length ∷ []) []
+
+-- the length that an arrival's answer says was accepted for flow i
+abbrev pub addedTo : ℕ → ℕ → ℕ → ℕ → List ℕ
+addedTo refusal flow length i = cond (eqb refusal 0 && eqb flow i) (length ∷ []) []
+
+-- the bytes sent in all
 abbrev pub bytesIn : List ℕ → ℕ
 bytesIn [] = 0
 bytesIn (flow ∷ []) = 0

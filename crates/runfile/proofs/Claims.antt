@@ -20,11 +20,11 @@ use Rattle.drr.proofs.Demand3.{demand-3}
 use Rattle.runfile.specs.declared.turns.Tally.{Tally}
 use Rattle.runfile.specs.File.{eventCount, eventOffset, flowsIn, eventsIn, fileAnswer, readReply, runAnswer}
 use Rattle.runfile.specs.Run.{Act, due, Timed, bookedIn, lineAfter, callsIn, tableIn, runCalls}
-use Rattle.runfile.specs.Listing.{tally, tallyAfter, endLine, linesOf, ends, ticksOf, lastOf, runListing, filled}
+use Rattle.runfile.specs.Listing.{tally, tallyAfter, endLine, linesOf, ends, ticksOf, lastOf, acceptedTo, sentTo, runListing, filled}
 use Rattle.runfile.proofs.Files.{file-setup, file-sorted}
 use Rattle.runfile.proofs.Going.{events-length}
 use Rattle.runfile.proofs.Runs.{run-timed, run-books, run-only, run-empties, acts-keep}
-use Rattle.runfile.proofs.Counts.{each-one, listing-is, lines-length, ends-count, last-is}
+use Rattle.runfile.proofs.Counts.{each-one, all-in-turn, listing-is, lines-length, ends-count, last-is}
 
 -- no second answer, place or state meets the contract of `reader::read`
 pub one-read : (b : List ℕ) (r t : Made) →
@@ -80,6 +80,10 @@ module _ (b : List ℕ) (ok : fileAnswer b .refusal ≡ 0) where
         ap length file-books,
         events-length (drop (eventOffset b) b) 0 (eventCount b),
       )
+
+  -- .. and each accepted event its own S line: a flow's packets are sent in the order of its accepted events, each once
+  pub file-in-turn : (i : ℕ) → i < T .n → acceptedTo T (runCalls b) fresh i ≡ sentTo T (runCalls b) fresh i
+  file-in-turn i i<n = all-in-turn T i i<n (runCalls b) fresh (fresh-sound ranged) refl (run-empties T ranged (eventsIn b) (file-sorted b ok))
 
   pub file-listing : runListing b ≡ linesOf T (runCalls b) fresh ++ endLine count
   file-listing = listing-is T (runCalls b) fresh (tally 0 0 0)

@@ -1,26 +1,29 @@
 -- What a run's lines tell: one for each event, then line 3 with its tick; and that the run's calls are the public ones.
 use mathlib.Core.Path.{_≡_, refl, sym, ap, _∙_}
 use mathlib.Core.Bool.{Bool, true, false, cond}
-use mathlib.Core.List.{List, [], _∷_, _++_, append-assoc}
-use Prim.Native.Nat.{ℕ, _+_, _*_, _<_}
+use mathlib.Core.List.{List, [], _∷_, _++_, append-assoc, append-nil}
+use Prim.Native.Nat.{ℕ, zero, suc, _+_, _*_, _<_}
 use native.Mathlib.Omega.{arith}
 use borrow.Author.Tests.{eqb-true}
 use lib.Dec.{eqb}
-use lib.ListN.{length, length-append}
+use lib.ListN.{length, getD, take, length-append}
 use Rattle.drr.specs.declared.Table.{Table}
-use Rattle.drr.specs.State.{Line, charge, stateFrom}
+use Rattle.drr.specs.State.{Line, rowOf, charge, stateFrom}
 use Rattle.drr.specs.Facts.{Sound}
 use Rattle.drr.specs.Answers.{Answer, reply}
 use Rattle.drr.specs.Arrival.{arrivalOf}
 use Rattle.drr.specs.Computed.{pickOf}
-use Rattle.drr.specs.Floor.{arrives, picks, replyTo}
+use Rattle.drr.specs.Floor.{arrives, picks, replyTo, givenIn, addedTo}
 use Rattle.drr.proofs.Bools.{by-test}
 use Rattle.drr.proofs.Keeps.{arrival-keeps, pick-keeps}
 use Rattle.drr.proofs.Waiting.{waitingAll, PickedAs, idled, gave, pick-as}
+use Rattle.drr.proofs.Visits.{total}
+use Rattle.drr.proofs.Service.{lengthsIn}
 use Rattle.drr.proofs.Demand3.{reply-is}
+use Rattle.drr.proofs.Rows.{pick-takes, arrival-adds}
 use Rattle.runfile.specs.declared.turns.Tally.{Tally}
 use Rattle.runfile.specs.Run.{Act, comes, asks, outcomeOf, bookedIn, lineAfter, callIn}
-use Rattle.runfile.specs.Listing.{tally, dropLine, startLine, lineFor, afterEvent, afterPick, afterAct, tallyAfter, endLine, linesOf, listing, endOf, ends, ticksOf, lastOf}
+use Rattle.runfile.specs.Listing.{tally, dropLine, startLine, lineFor, afterEvent, afterPick, afterAct, tallyAfter, endLine, linesOf, listing, endOf, ends, ticksOf, lastOf, acceptedTo, sentTo}
 use Rattle.runfile.proofs.Going.{lines, arrival-waits}
 
 -- a call on the line is document 01's call on the state made of it
@@ -128,3 +131,31 @@ module _ (T : Table) where
       go [] on = on
       go (f ∷ []) on = on
       go (f ∷ len ∷ more) on = sent-last ks (pickOf T l .line) (tally (y .sent + 1) (y .refused) (t + charge len)) (omega arith)
+
+-- ---- first in, first out: flow i's packets are sent in the order of its accepted events, each once
+module _ (T : Table) (i : ℕ) (i<n : i < T .n) where
+  pub in-turn : (ks : List Act) (l : Line) → Sound T l → lengthsIn l i ++ acceptedTo T ks l i ≡ sentTo T ks l i ++ lengthsIn (lineAfter T ks l) i
+  in-turn [] l ok = append-nil (lengthsIn l i)
+  in-turn (comes a f n ∷ ks) l ok =
+      let more = addedTo (arrivalOf T l f n .answer .refusal) f n i in
+      let l₁ = arrivalOf T l f n .line in
+      sym (append-assoc (lengthsIn l i) more (acceptedTo T ks l₁ i)) ∙ ap (λ (xs : List ℕ). xs ++ acceptedTo T ks l₁ i) (sym (arrival-adds T i i<n l ok f n)) ∙ in-turn ks l₁ (arrival-keeps T l ok f n)
+  in-turn (asks t ∷ ks) l ok =
+      let gone = givenIn (pickOf T l .answer .numbers) i in
+      let l₁ = pickOf T l .line in
+      ap (λ (xs : List ℕ). xs ++ acceptedTo T ks l₁ i) (pick-takes T i i<n l ok) ∙ append-assoc gone (lengthsIn l₁ i) (acceptedTo T ks l₁ i)
+      ∙ ap (λ (xs : List ℕ). gone ++ xs) (in-turn ks l₁ (pick-keeps T l ok)) ∙ sym (append-assoc gone (sentTo T ks l₁ i) (lengthsIn (lineAfter T ks l₁) i))
+
+  no-count : (xs : List ℕ) (j : ℕ) → total xs ≡ 0 → getD xs j 0 ≡ 0
+  no-count [] j h = refl
+  no-count (x ∷ xs) zero h = omega arith
+  no-count (x ∷ xs) (suc j) h = no-count xs j (omega arith)
+
+  no-lengths : (l : Line) → waitingAll l ≡ 0 → lengthsIn l i ≡ []
+  no-lengths l h = ap (λ (k : ℕ). take k (rowOf l i)) (no-count (l .counts) i h)
+
+  -- from a line on which nothing waits to another
+  pub all-in-turn : (ks : List Act) (l : Line) → Sound T l → waitingAll l ≡ 0 → waitingAll (lineAfter T ks l) ≡ 0 → acceptedTo T ks l i ≡ sentTo T ks l i
+  all-in-turn ks l ok before after =
+      ap (λ (xs : List ℕ). xs ++ acceptedTo T ks l i) (sym (no-lengths l before)) ∙ in-turn ks l ok
+      ∙ ap (λ (xs : List ℕ). sentTo T ks l i ++ xs) (no-lengths (lineAfter T ks l) after) ∙ append-nil (sentTo T ks l i)

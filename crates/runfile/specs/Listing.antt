@@ -9,6 +9,7 @@ use Rattle.drr.specs.State.{Line, charge, freshLine}
 use Rattle.drr.specs.Answers.{Answer, Outcome}
 use Rattle.drr.specs.Arrival.{arrivalOf}
 use Rattle.drr.specs.Computed.{pickOf}
+use Rattle.drr.specs.Floor.{givenIn, addedTo}
 use Rattle.runfile.specs.declared.turns.Tally.{Tally}
 use Rattle.runfile.specs.File.{Event, eventCount, eventsIn, runAnswer}
 use Rattle.runfile.specs.Run.{Act, comes, asks, outcomeOf, tableIn, runOf}
@@ -82,6 +83,19 @@ ticksOf (e ∷ es) = e .tick ∷ ticksOf es
 abbrev pub lastOf : ℕ → List ℕ → ℕ
 lastOf d [] = d
 lastOf d (x ∷ xs) = lastOf x xs
+
+-- the lengths of flow i's accepted events, in their order
+abbrev pub acceptedTo : Table → List Act → Line → ℕ → List ℕ
+acceptedTo T [] l i = []
+acceptedTo T (comes tick flow length ∷ ks) l i =
+    addedTo (arrivalOf T l flow length .answer .refusal) flow length i ++ acceptedTo T ks (arrivalOf T l flow length .line) i
+acceptedTo T (asks tick ∷ ks) l i = acceptedTo T ks (pickOf T l .line) i
+
+-- .. and of its packets sent
+abbrev pub sentTo : Table → List Act → Line → ℕ → List ℕ
+sentTo T [] l i = []
+sentTo T (comes tick flow length ∷ ks) l i = sentTo T ks (arrivalOf T l flow length .line) i
+sentTo T (asks tick ∷ ks) l i = givenIn (pickOf T l .answer .numbers) i ++ sentTo T ks (pickOf T l .line) i
 
 -- the listing of these events on a fresh line of the table
 abbrev pub eventsListing : Table → List Event → List ℕ

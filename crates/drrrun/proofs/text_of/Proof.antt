@@ -1,0 +1,44 @@
+use mathlib.Core.Path.{_≡_, sym, ap, _∙_}
+use mathlib.Core.List.{List, _++_}
+use Prim.Native.Nat.{ℕ, _≤_}
+use native.Mathlib.Omega.{arith}
+use borrow.Author.Needs.{needs}
+use lib.ListN.{length, drop, length-append}
+use lib.Seq.{length-take-le}
+use Rattle.io.specs.Counts.{Counts}
+use Rattle.text.specs.Text.{listingWithin, refusalWithin}
+use Rattle.drrrun.proofs.text_of.Statement.{statement}
+use Rattle.drrrun.proofs.text_of.Tie as tie
+
+-- the bytes of a text at the start of a buffer are no more than the buffer's
+counted : (W b x : List ℕ) (r : ℕ) → r ≡ length W → x ≡ W ++ drop (length W) b → Counts r x
+counted W b x r e is = let most : r ≤ length x = omega (arith, ap length is, length-append W (drop (length W) b)) in (most, sym (length-take-le r x most))
+
+returns : tie.Need-returns
+returns c =
+    let t = c .before .before in
+    let n = t .before .before in
+    let a = n .before .before .before .before .before .before .before .before .args in
+    counted (refusalWithin (n .before .wide .result) (n .number .result) (length (a .buf .now))) (a .buf .now) _ _ (t .refusal-text .ensures .0) (t .refusal-text .ensures .1)
+
+returns-2 : tie.Need-returns-2
+returns-2 c =
+    let t = c .before .before in
+    let a = t .before .before .before .before .before .before .args in
+    counted (listingWithin (a .list .now) (length (a .buf .now))) (a .buf .now) _ _ (t .listing-text .ensures .0) (t .listing-text .ensures .1)
+
+pub text-of-spec : {M : Type 1} → statement M
+text-of-spec =
+    tie.close
+    (tie.spec
+    (λ c. search needs)
+    (λ c κs. search needs)
+    (λ c κs. search needs)
+    (λ c κs. search needs)
+    (λ c κs. search needs)
+    (λ c. search needs)
+    returns
+    (λ c. search needs)
+    (λ c κs. search needs)
+    (λ c. search needs)
+    returns-2)

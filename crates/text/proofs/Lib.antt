@@ -1,0 +1,2 @@
+-- Laws that several functions' proofs cite.
+pub mod Texts
