@@ -4,7 +4,7 @@ use mathlib.Core.Bool.{true}
 use mathlib.Core.List.{List, [], _∷_, _++_}
 use mathlib.Core.Logic.{_↔_, _≢_}
 use Prim.Native.Nat.{ℕ, _+_, _*_, _-_, _≤_, _<_}
-use lib.ListN.{length}
+use lib.ListN.{length, drop}
 use mir.Val.{Val}
 use denote.Laws.{Is}
 use Rattle.drr.specs.declared.Table.{Table}
@@ -64,6 +64,7 @@ use Rattle.runfile.proofs.reader.read.Statement as read-says
 use Rattle.runfile.proofs.reader.read.Met as read-met
 use Rattle.runfile.proofs.run.Statement as run-says
 use Rattle.runfile.proofs.run.Met as run-met
+use Rattle.text.specs.Text.{listingText}
 use Rattle.text.proofs.listing_text.Statement as listing-text-says
 use Rattle.text.proofs.listing_text.Met as listing-text-met
 use Rattle.text.proofs.refusal_text.Statement as refusal-text-says
@@ -76,6 +77,7 @@ use Rattle.figures.proofs.owed.Statement as owed-says
 use Rattle.figures.proofs.owed.Met as owed-met
 use Rattle.figures.proofs.wait.Statement as wait-says
 use Rattle.figures.proofs.wait.Met as wait-met
+use Rattle.claims.proofs.Shown.{shown}
 
 -- ---- DEMANDS 1 AND 2, the calls: each takes any numbers and any state, ends, and answers as its definition says.
 -- A function's `statement` is that it returns from every call and then meets the contract in its source, which here asks nothing of the caller.
@@ -311,3 +313,8 @@ module _ (b : List ℕ) (ok : fileAnswer b .refusal ≡ 0) where
 
   pub line-3-no-event : eventCount b ≡ 0 → lineThree .last ≡ 0
   line-3-no-event = run-claims.tick-no-event b ok
+
+  -- what is printed of the list after the run: the listing's text, whatever stands behind it
+  pub run-printed : (out : List ℕ) → runAnswer b (length out) .refusal ≡ 0 → listingText (filled b out) ≡ listingText (runListing b)
+  unfolding filled
+  run-printed out e = rw e (shown (tableIn b) (runCalls b) (freshLine (tableIn b .n)) (tally 0 0 0) (drop (6 * (eventCount b + 1)) out) (run-stays-sound []))
