@@ -1,11 +1,11 @@
 -- Calls on a State: what they keep, what they hand back.
 use mathlib.Core.Path.{_≡_, refl, sym, ap, subst, subst⁻¹, _∙_}
-use mathlib.Core.Bool.{Bool, true, false, cond}
+use mathlib.Core.Bool.{Bool, true, false}
 use mathlib.Core.List.{List}
 use mathlib.Core.Logic.{⊎-elim}
 use Prim.Native.Nat.{ℕ, zero, suc, _+_}
 use native.Mathlib.Omega.{arith}
-use borrow.Author.Tests.{eqb-true, eqb-false}
+use borrow.Author.Tests.{eqb-true}
 use lib.Dec.{leb, eqb}
 use Rattle.drr.specs.declared.Table.{Table}
 use Rattle.drr.specs.declared.State.{State}
@@ -15,10 +15,10 @@ use Rattle.drr.specs.declared.Found.the-variants.{At, Nothing}
 use Rattle.drr.specs.State.{Line, deficitOf, due, lineIn, stateFrom, freshLine, freshState, emptyTable}
 use Rattle.drr.specs.Sound.{soundState}
 use Rattle.drr.specs.Facts.{Ranged, Sound, SoundState, ShapedState}
-use Rattle.drr.specs.Answers.{Answer, idle, Outcome, outcome, Reply, reply, pickRefused, guarded}
+use Rattle.drr.specs.Answers.{Answer, idle, Outcome, Reply, reply, pickRefused, guarded}
 use Rattle.drr.specs.Pick.{next, openAt, closed, emptied, idles, starts}
 use Rattle.drr.specs.Computed.{serve, turn, lookFor, enough, carryOn, readyb, pickAt, pickOf, pickReply}
-use Rattle.drr.specs.Setup.{tableFor, setupAnswer, setupReply}
+use Rattle.drr.specs.Setup.{setupAnswer, setupReply}
 use Rattle.drr.proofs.Bools.{by-test, dec}
 use Rattle.drr.proofs.Facts.{sound-is, of-sound}
 use Rattle.drr.proofs.Search.{first-empty}

@@ -1,7 +1,7 @@
 -- A line with its lengths is `Sound` exactly when the test `soundb` is true of it.
-use Prim.Native.Nat.{ℕ, zero, suc, _≤_, _<_}
-use mathlib.Core.Path.{_≡_, refl, sym, _∙_}
-use mathlib.Core.Bool.{Bool, true, false, not, _&&_, _||_}
+use Prim.Native.Nat.{ℕ, _<_}
+use mathlib.Core.Path.{_≡_}
+use mathlib.Core.Bool.{Bool, true, not, _&&_, _||_}
 use mathlib.Core.Logic.{_⊎_, inl, inr, ⊎-elim}
 use native.Mathlib.Omega.{arith}
 use borrow.Author.Tests.{not-true, leb-true, ltb-true, ltb-false, eqb-true, eqb-false, le-leb, lt-ltb, le-ltb, eq-eqb, ne-eqb}
@@ -9,7 +9,7 @@ use lib.Dec.{ltb, leb, eqb}
 use lib.ListN.{getD}
 use Rattle.drr.specs.declared.Table.{Table}
 use Rattle.drr.specs.State.{Line, quantumOf, maximumOf, deficitOf, waitingOf, rowOf, oldest, charge}
-use Rattle.drr.specs.Sound.{all, headb, rangeb, withinb, creditb, unusedb, cellb, numbersb, visited, cellsb, flowb, soundb}
+use Rattle.drr.specs.Sound.{all, headb, rangeb, withinb, creditb, unusedb, numbersb, visited, cellsb, flowb, soundb}
 use Rattle.drr.specs.Facts.{Credit, InUse, Unused, Flow, Shaped, Sound}
 use Rattle.drr.proofs.Bools.{and-left, and-right, and-both, or-cases, or-inl, or-inr, not-of, chosen, choose, within-of, within-is, all-at, all-of}
 

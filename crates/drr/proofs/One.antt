@@ -14,7 +14,7 @@ use Rattle.drr.specs.Answers.{Answer, sentAs, Outcome, outcome}
 use Rattle.drr.specs.Pick.{next, openAt, closed, emptied, sent, Ready, Looks, Picks}
 use Rattle.drr.specs.Pick.Looks.{idles, sends, passes}
 use Rattle.drr.specs.Pick.Picks.{goes-on, closes, starts}
-use Rattle.drr.specs.Computed.{serve, turn, lookFor, enough, look, carryOn, readyb, pickAt, pickOf}
+use Rattle.drr.specs.Computed.{serve, turn, lookFor, enough, look, carryOn, pickAt, pickOf}
 use Rattle.drr.proofs.Bools.{apart}
 use Rattle.drr.proofs.Steps.{visit-passes, on-ends}
 use Rattle.drr.proofs.Visits.{total, most, total-low, grows}

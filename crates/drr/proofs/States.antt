@@ -1,7 +1,7 @@
 -- A State and what stands in it as lists; a call on a state.
 use mathlib.Core.Path.{_≡_, refl, sym, ap, _∙_}
 use mathlib.Core.Bool.{Bool, true, false, not}
-use mathlib.Core.List.{List, [], _∷_, map}
+use mathlib.Core.List.{List, [], _∷_}
 use Prim.Native.Nat.{ℕ}
 use Rattle.drr.specs.declared.Row.{Row}
 use Rattle.drr.specs.declared.Table.{Table}

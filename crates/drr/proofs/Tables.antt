@@ -11,7 +11,7 @@ use lib.Dec.{ltb, eqb}
 use lib.ListN.{length, getD, replicate, getD-replicate, List·getD-eq-default}
 use Rattle.drr.specs.declared.Table.{Table}
 use Rattle.drr.specs.declared.FlowRecord.{FlowRecord}
-use Rattle.drr.specs.State.{Line, quantumOf, maximumOf, freshLine, noFlows}
+use Rattle.drr.specs.State.{Line, freshLine, noFlows}
 use Rattle.drr.specs.Sound.{withinb}
 use Rattle.drr.specs.Facts.{Ranged, Sound}
 use Rattle.drr.specs.Answers.{refusedAt}

@@ -1,6 +1,6 @@
 -- What document 01 gives as the answer of a call: for each case of an enum its refusal number and its other numbers.
 use Prim.Native.Nat.{ℕ}
-use mathlib.Core.Bool.{Bool, true, false, cond}
+use mathlib.Core.Bool.{cond}
 use mathlib.Core.List.{List, [], _∷_}
 use Rattle.drr.specs.declared.State.{State}
 use Rattle.drr.specs.declared.Refusal.{Refusal}

@@ -1,7 +1,7 @@
 -- A sound state as facts, which theorems use. A line that has the lengths that the code's types give is `Sound` exactly when `soundb` is true of it (proofs/Facts.antt).
 use Prim.Native.Nat.{ℕ, _≤_, _<_}
 use mathlib.Core.Path.{_≡_}
-use mathlib.Core.List.{List, []}
+use mathlib.Core.List.{List}
 use mathlib.Core.Bool.{Bool, true, false}
 use mathlib.Core.Logic.{_⊎_}
 use lib.ListN.{length, getD}

@@ -1,5 +1,5 @@
 -- "The two figures" of a flow: what it is owed of S bytes, and how long it may wait for the first.
-use mathlib.Core.Bool.{Bool, true, false, cond}
+use mathlib.Core.Bool.{Bool, cond}
 use Prim.Native.Nat.{ℕ, zero, suc, _+_, _*_, _-_}
 use lib.Dec.{leb}
 use Rattle.drr.specs.declared.Table.{Table}

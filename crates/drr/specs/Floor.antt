@@ -1,12 +1,12 @@
 -- Demand 3, the floor, as one statement: while a flow has packets waiting, the least it receives out of the bytes on the line.
-use mathlib.Core.Bool.{Bool, true, false, cond, _&&_}
+use mathlib.Core.Bool.{cond, _&&_}
 use mathlib.Core.List.{List, [], _∷_}
 use Prim.Native.Nat.{ℕ, _+_, _≤_, _<_}
 use lib.Dec.{eqb}
 use Rattle.drr.specs.declared.State.{State}
 use Rattle.drr.specs.State.{waitingOf, charge, lineIn}
 use Rattle.drr.specs.Facts.{SoundState}
-use Rattle.drr.specs.Answers.{Answer, Reply}
+use Rattle.drr.specs.Answers.{Reply}
 use Rattle.drr.specs.Arrival.{arrivalReply}
 use Rattle.drr.specs.Computed.{pickReply}
 use Rattle.drr.specs.Figures.{owed}

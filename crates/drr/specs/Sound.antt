@@ -1,6 +1,6 @@
 -- "A state is sound when": the test, clause by clause. Facts.antt has the same as facts.
 use Prim.Native.Nat.{ℕ, suc, zero}
-use mathlib.Core.Bool.{Bool, true, false, not, _&&_, _||_}
+use mathlib.Core.Bool.{Bool, true, not, _&&_, _||_}
 use lib.Dec.{ltb, leb, eqb}
 use lib.ListN.{getD}
 use Rattle.drr.specs.declared.Table.{Table}

@@ -1,5 +1,5 @@
 -- "The table and its state": what a state holds, how it is read and written, and the fresh and the empty state.
-use mathlib.Core.Bool.{Bool, true, false, cond}
+use mathlib.Core.Bool.{Bool, false}
 use mathlib.Core.List.{List, [], _∷_, _++_, map}
 use Prim.Native.Nat.{ℕ, _+_, _-_}
 use lib.ListN.{getD, set, drop, replicate}

@@ -1,12 +1,12 @@
 -- The loop of visits and step 1, as the code takes them.
 use mathlib.Core.Path.{_≡_, refl, sym, ap, _∙_}
-use mathlib.Core.Bool.{Bool, true, false, _&&_}
+use mathlib.Core.Bool.{Bool, true, false}
 use mathlib.Core.List.{List}
 use Prim.Native.Nat.{ℕ, _+_, _-_, _≤_, _<_}
 use native.Mathlib.Omega.{arith}
 use borrow.Author.Tests.{le-leb, lt-leb, lt-ltb, le-ltb}
-use lib.Dec.{leb, ltb}
-use lib.ListN.{length, getD, set, length-set}
+use lib.Dec.{leb}
+use lib.ListN.{set, length-set}
 use lib.Seq.{set-getD}
 use Rattle.drr.specs.declared.Table.{Table}
 use Rattle.drr.specs.declared.Found.{Found}
@@ -17,9 +17,8 @@ use Rattle.drr.specs.Answers.{idle, outcome}
 use Rattle.drr.specs.Pick.{next, openAt, closed, emptied, Ready}
 use Rattle.drr.specs.Computed.{sending, serve, turn, look, carryOn, readyb, pickAt, pickOf}
 use Rattle.engine.specs.Needs.{Bookable, Sendable}
-use Rattle.drr.proofs.Bools.{apart}
 use Rattle.drr.proofs.Steps.{low, found-in, grown, visit-passes, place-in, on-ends}
-use Rattle.drr.proofs.Visits.{total, most, due-most, deficit-most, total-low, grows}
+use Rattle.drr.proofs.Visits.{total, most, deficit-most, total-low, grows}
 use Rattle.drr.proofs.One.{look-unfolds}
 
 -- the loop of visits, from the line s to the line t with v visits opened

@@ -1,7 +1,7 @@
 -- The soundness test put together from its parts, as the code takes them.
 use Prim.Native.Nat.{ℕ, _<_}
 use mathlib.Core.Path.{_≡_, sym}
-use mathlib.Core.Bool.{Bool, true, false, _&&_, and-false}
+use mathlib.Core.Bool.{Bool, true, false, and-false}
 use lib.Dec.{ltb}
 use Rattle.drr.specs.declared.Table.{Table}
 use Rattle.drr.specs.State.{Line, quantumOf, maximumOf, deficitOf, waitingOf, oldest}

@@ -5,7 +5,6 @@ use Prim.Native.Nat.{ℕ, _+_, _*_, _≤_, _<_}
 use native.Mathlib.Omega.{arith}
 use lib.ListN.{length, length-append, drop}
 use Rattle.drr.specs.declared.Made.{Made}
-use Rattle.drr.specs.declared.State.{State}
 use Rattle.drr.specs.declared.Table.{Table}
 use Rattle.drr.specs.declared.Verdict.{Verdict}
 use Rattle.drr.specs.State.{Line, freshLine, freshState}

@@ -18,7 +18,7 @@ use Rattle.drr.specs.declared.PickAnswer.the-variants.{Idle, Sent, Refused}
 use Rattle.drr.specs.State.{Line, waitingOf, maximumOf, freshLine}
 use Rattle.drr.specs.Facts.{Sound, Ranged}
 use Rattle.drr.specs.Answers.{numberOf, Answer, idle, sentAs, pickPaper, Outcome, outcome}
-use Rattle.drr.specs.Arrival.{put, arrivalOf}
+use Rattle.drr.specs.Arrival.{arrivalOf}
 use Rattle.drr.specs.Computed.{pickOf}
 use Rattle.drr.proofs.Bools.{apart, by-test, below?}
 use Rattle.drr.proofs.PickAnswer as pick-answer

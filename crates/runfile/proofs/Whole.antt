@@ -1,10 +1,10 @@
 -- The whole run of a file: what its reader hands on, its answer, and what stands in the lent list.
 use mathlib.Core.Path.{_≡_, refl, sym, ap, subst, _∙_}
-use mathlib.Core.Bool.{Bool, true, false, cond}
+use mathlib.Core.Bool.{cond}
 use mathlib.Core.List.{List, _++_}
 use Prim.Native.Nat.{ℕ, _+_, _*_, _-_, _≤_, _<_}
 use native.Mathlib.Omega.{arith}
-use borrow.Author.Tests.{eqb-true, lt-ltb, le-ltb}
+use borrow.Author.Tests.{lt-ltb, le-ltb}
 use lib.Dec.{eqb, ltb}
 use lib.ListN.{length, take, drop, length-drop}
 use Rattle.drr.specs.declared.State.{State}
@@ -16,7 +16,7 @@ use Rattle.drr.specs.Answers.{numberOf, Answer, fine, refusedAt, Reply, reply}
 use Rattle.drr.proofs.Bools.{by-test}
 use Rattle.drr.proofs.Papers.{number-some}
 use Rattle.drr.proofs.Tables.{made-ranged}
-use Rattle.runfile.specs.File.{eventCount, eventOffset, flowCount, flowOffset, flowsIn, eventsIn, eventsFrom, fileAnswer, runAnswer, readReply}
+use Rattle.runfile.specs.File.{eventCount, eventOffset, flowCount, flowOffset, flowsIn, eventsFrom, fileAnswer, runAnswer, readReply}
 use Rattle.runfile.specs.Run.{tableIn}
 use Rattle.runfile.specs.Listing.{eventsListing, runListing, filled}
 use Rattle.runfile.proofs.Files.{part-is, file-laid, file-setup, flows-length}

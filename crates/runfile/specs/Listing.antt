@@ -1,12 +1,12 @@
 -- "The run file and its listing": the listing is a reading of the run's calls.
-use mathlib.Core.Bool.{Bool, true, false, cond}
+use mathlib.Core.Bool.{cond}
 use mathlib.Core.List.{List, [], _∷_, _++_}
 use Prim.Native.Nat.{ℕ, _+_, _*_}
 use lib.Dec.{eqb}
 use lib.ListN.{length, take, drop}
 use Rattle.drr.specs.declared.Table.{Table}
 use Rattle.drr.specs.State.{Line, charge, freshLine}
-use Rattle.drr.specs.Answers.{Answer, Outcome}
+use Rattle.drr.specs.Answers.{Answer}
 use Rattle.drr.specs.Arrival.{arrivalOf}
 use Rattle.drr.specs.Computed.{pickOf}
 use Rattle.drr.specs.Floor.{givenIn, addedTo}

@@ -1,13 +1,13 @@
 -- The run of a file, as the list of its calls in time: what is said of a run is said of this list.
 use mathlib.Core.Path.{_≡_}
-use mathlib.Core.Bool.{Bool, true, false, cond}
+use mathlib.Core.Bool.{cond}
 use mathlib.Core.List.{List, [], _∷_}
 use Prim.Native.Nat.{ℕ, zero, suc, _+_, _*_, _≤_}
 use lib.Dec.{leb}
 use lib.ListN.{length}
 use Rattle.drr.specs.declared.Table.{Table}
 use Rattle.drr.specs.State.{Line, charge, freshLine}
-use Rattle.drr.specs.Answers.{Answer, Outcome}
+use Rattle.drr.specs.Answers.{Outcome}
 use Rattle.drr.specs.Arrival.{arrivalOf}
 use Rattle.drr.specs.Computed.{pickOf}
 use Rattle.drr.specs.Setup.{tableFor}

@@ -1,12 +1,11 @@
-use mathlib.Core.Path.{_≡_, refl, sym, ap, _∙_}
-use mathlib.Core.Bool.{true, false}
-use mathlib.Core.List.{List, []}
+use mathlib.Core.Path.{_≡_, refl, sym, _∙_}
+use mathlib.Core.Bool.{false}
+use mathlib.Core.List.{List}
 use Prim.Native.Nat.{ℕ, _+_, _-_, _≤_, _<_}
 use native.Mathlib.Omega.{arith}
 use borrow.Author.Needs.{needs}
-use lib.ListN.{length, getD, set}
 use Rattle.drr.specs.declared.Table.{Table}
-use Rattle.drr.specs.declared.Found.the-variants.{At, Nothing}
+use Rattle.drr.specs.declared.Found.the-variants.{At}
 use Rattle.drr.specs.State.{Line, tableOf, lineOf, quantumOf, deficitOf, due}
 use Rattle.drr.specs.Pick.{next}
 use Rattle.drr.proofs.Steps.{sound-place}
@@ -14,11 +13,6 @@ use Rattle.drr.proofs.Visits.{total, most}
 use Rattle.engine.proofs.Loop.{Along, along-first, along-idles, along-on, along-falls, along-sends, room, flow-low, fits, sendable}
 use Rattle.engine.proofs.look.Statement.{statement}
 use Rattle.engine.proofs.look.Tie as tie
-use Rattle.engine.proofs.look.Reads as reads
-use Rattle.engine.proofs.look.Lts as lts
-use Rattle.engine.proofs.charge_of.Reads as charge-of-reads
-use Rattle.engine.proofs.next_waiting.Reads as next-waiting-reads
-use Rattle.engine.proofs.send.Reads as send-reads
 
 -- the line in the arrays between two visits
 abbrev between : List ℕ → List ℕ → List (List ℕ) → ℕ → Line

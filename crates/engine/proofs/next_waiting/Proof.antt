@@ -1,9 +1,8 @@
 use mathlib.Core.Path.{_≡_, refl, sym, ap, _∙_}
-use Prim.Native.Nat.{ℕ, _+_, _-_, _≤_, _<_}
-use native.Mathlib.Omega.{arith}
+use Prim.Native.Nat.{_-_, _≤_, _<_}
 use borrow.Author.Needs.{needs}
 use lib.ListN.{getD}
-use Rattle.drr.specs.declared.Found.the-variants.{At, Nothing}
+use Rattle.drr.specs.declared.Found.the-variants.{At}
 use Rattle.drr.specs.Pick.{after, firstOf}
 use Rattle.drr.proofs.Search.{first-here, first-on, first-none, after-low}
 use Rattle.engine.proofs.next_waiting.Statement.{statement}

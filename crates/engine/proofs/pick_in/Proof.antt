@@ -1,7 +1,6 @@
-use mathlib.Core.Path.{_≡_, refl, sym, ap, _∙_}
-use mathlib.Core.Bool.{true, false}
+use mathlib.Core.Path.{_≡_, _∙_}
 use mathlib.Core.Logic.{⊎-elim}
-use Prim.Native.Nat.{ℕ, _≤_, _<_}
+use Prim.Native.Nat.{_≤_, _<_}
 use native.Mathlib.Omega.{arith}
 use borrow.Author.Needs.{needs}
 use Rattle.drr.specs.declared.Table.{Table}
@@ -10,11 +9,6 @@ use Rattle.drr.proofs.Steps.{sound-place}
 use Rattle.engine.proofs.Loop.{Ends, starts-shut, stops-short, stops-empty, ready, goes}
 use Rattle.engine.proofs.pick_in.Statement.{statement}
 use Rattle.engine.proofs.pick_in.Tie as tie
-use Rattle.engine.proofs.pick_in.Reads as reads
-use Rattle.engine.proofs.pick_in.Lts as lts
-use Rattle.engine.proofs.look.Reads as look-reads
-use Rattle.engine.proofs.charge_of.Reads as charge-of-reads
-use Rattle.engine.proofs.send.Reads as send-reads
 
 module _ (c : tie.Start) where
   abbrev T : Table

@@ -1,13 +1,12 @@
-use Prim.Native.Nat.{ℕ, _≤_, _<_, _+_, _-_}
-use mathlib.Core.Path.{_≡_, refl, ap, sym, _∙_}
-use mathlib.Core.Bool.{Bool, true, false, not, _&&_, _||_}
+use Prim.Native.Nat.{_≤_, _-_}
+use mathlib.Core.Path.{_≡_, refl, _∙_}
+use mathlib.Core.Bool.{true}
 use borrow.Author.Needs.{needs}
 use native.Mathlib.Omega.{arith}
-use lib.ListN.{length, getD}
 use lib.Dec.{lit≤}
 use Rattle.drr.specs.declared.Table.{Table}
 use Rattle.drr.specs.State.{Line, tableOf, lineOf}
-use Rattle.drr.specs.Sound.{all, cellsb, flowb, soundb}
+use Rattle.drr.specs.Sound.{all, cellsb, flowb}
 use Rattle.drr.proofs.Bools.{refuted, passed, all-none, all-more}
 use Rattle.engine.proofs.Tests.{head-fault, flow-fault, no-fault, numbers-fault, cell-fault, flow-good}
 use Rattle.engine.proofs.sound_in.Statement.{statement}

@@ -1,4 +1,4 @@
-use mathlib.Core.Path.{_≡_, sym, ap, _∙_}
+use mathlib.Core.Path.{sym, ap, _∙_}
 use borrow.Author.Needs.{needs}
 use Rattle.drr.specs.Answers.{Answer, verdictPaper}
 use Rattle.exports.proofs.wikulambag_run.Statement.{statement}

@@ -1,12 +1,12 @@
-use mathlib.Core.Path.{_≡_, refl, sym, ap, _∙_}
-use mathlib.Core.List.{List, [], _∷_, map}
-use Prim.Native.Nat.{ℕ, _+_, _-_, _≤_, _<_}
+use mathlib.Core.Path.{_≡_, refl, _∙_}
+use mathlib.Core.List.{List, []}
+use Prim.Native.Nat.{_-_, _≤_}
 use native.Mathlib.Omega.{arith}
 use borrow.Author.Needs.{needs}
-use lib.ListN.{length, getD, set, replicate, length-map}
+use lib.ListN.{length, replicate, length-map}
 use lib.Seq.{paste}
 use Rattle.drr.specs.declared.Row.{Row}
-use Rattle.drr.specs.State.{lengthsOf, rowFrom, cellsIn, rowsFrom}
+use Rattle.drr.specs.State.{rowFrom, rowsFrom}
 use Rattle.scheduler.proofs.Copies.{map-turn, copy-end}
 use Rattle.scheduler.proofs.rows_of.Statement.{statement}
 use Rattle.scheduler.proofs.rows_of.Tie as tie

@@ -1,4 +1,4 @@
-use mathlib.Core.Path.{_≡_, refl, sym, ap, _∙_}
+use mathlib.Core.Path.{_≡_, ap, _∙_}
 use mathlib.Core.List.{List}
 use mathlib.Core.Logic.{⊎-elim}
 use Prim.Native.Nat.{ℕ, _+_, _*_, _-_, _≤_, _<_}
@@ -11,7 +11,7 @@ use Rattle.drr.specs.Answers.{idle, sentAs, arrivalPaper, pickPaper, outcome}
 use Rattle.drr.specs.Computed.{pickOf}
 use Rattle.drr.proofs.Waiting.{waitingAll}
 use Rattle.engine.proofs.Loop.{sound-bookable}
-use Rattle.runfile.specs.File.{eventAt, eventsFrom}
+use Rattle.runfile.specs.File.{eventsFrom}
 use Rattle.runfile.specs.Listing.{eventsListing}
 use Rattle.runfile.proofs.Lines.{written-length}
 use Rattle.runfile.proofs.Going.{Inside, Later, late, lines, lines-most, line-fits, inside-first, books, booked-less, sends, sent-less, given-most, inside-jumps, jumps-less, run-ends, not-sent}

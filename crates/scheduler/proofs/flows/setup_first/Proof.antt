@@ -1,14 +1,9 @@
-use mathlib.Core.Path.{_≡_, ap, _∙_}
-use mathlib.Core.List.{List}
+use mathlib.Core.Path.{ap, _∙_}
 use borrow.Author.Needs.{needs}
-use lib.ListN.{length}
-use Rattle.drr.specs.declared.FlowRecord.{FlowRecord}
 use Rattle.drr.specs.Setup.{setupReply}
 use Rattle.scheduler.proofs.Copies.{take-min}
 use Rattle.scheduler.proofs.flows.setup_first.Statement.{statement}
 use Rattle.scheduler.proofs.flows.setup_first.Tie as tie
-use Rattle.scheduler.proofs.flows.setup_first.Reads as reads
-use Rattle.scheduler.proofs.flows.setup_first.Lts as lts
 
 returns : tie.Need-returns
 returns c =

@@ -1,6 +1,5 @@
 use mathlib.Core.Path.{_≡_, sym, ap, _∙_}
-use Prim.Native.Nat.{ℕ, _≤_}
-use native.Mathlib.Omega.{arith}
+use Prim.Native.Nat.{_≤_}
 use borrow.Author.Needs.{needs}
 use lib.ListN.{length}
 use Rattle.drr.specs.declared.State.{State}
@@ -9,12 +8,6 @@ use Rattle.drr.specs.Answers.{fine, verdictPaper, reply}
 use Rattle.scheduler.proofs.Setups.{setup-count, setup-bad, setup-made, count-most, tables}
 use Rattle.scheduler.proofs.flows.setup_of.Statement.{statement}
 use Rattle.scheduler.proofs.flows.setup_of.Tie as tie
-use Rattle.scheduler.proofs.flows.setup_of.Reads as reads
-use Rattle.scheduler.proofs.flows.setup_of.Lts as lts
-use Rattle.scheduler.proofs.flows.first_cells.Reads as first-cells-reads
-use Rattle.scheduler.proofs.flows.flows_answer.Reads as flows-answer-reads
-use Rattle.scheduler.proofs.flows.fresh.Reads as fresh-reads
-use Rattle.scheduler.proofs.flows.refused.Reads as refused-reads
 
 lengths : (c : tie.Start) → (length (c .args .t1) ≡ 16) × (length (c .args .t2) ≡ 16)
 lengths c = (search needs, search needs)

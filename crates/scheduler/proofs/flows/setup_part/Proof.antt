@@ -1,7 +1,7 @@
 -- `flows::setup_part` meets its contract: a walk of its MIR, by hand. The array is copied into a local in memory, its first n elements are lent to `setup` for a lifetime that the walk makes, and come back (`Lent.antt`).
 -- All that the proof knows of `setup` is that it meets its contract. Assumes nothing.
-use mathlib.Core.Path.{_≡_, refl, sym, _∙_, subst}
-use Prim.Native.Nat.{ℕ, _≤_, _<_, _*_, _^_}
+use mathlib.Core.Path.{_≡_, refl, sym, subst}
+use Prim.Native.Nat.{ℕ, _≤_, _<_, _^_}
 use native.Mathlib.Omega.{arith}
 use mathlib.Core.List.{List, [], _∷_}
 use lib.Dec.{T as Holds}
