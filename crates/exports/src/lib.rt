@@ -1,5 +1,7 @@
-// The run for programs in other languages, by C's calling convention: a lent slice crosses as its
-// address and its length.
+// What programs in other languages can call, by C's calling convention: a lent slice crosses as its
+// address and its length, a lent array as its address. Here the run; `calls` has the calls on a state.
+pub mod calls;
+
 use drr::Verdict;
 ghost use mathlib.Core.Path.{_≡_};
 ghost use lib.ListN.{length};

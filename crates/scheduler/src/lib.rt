@@ -25,7 +25,7 @@ ghost use Rattle.drr.specs.Arrival.{arrivalOf, arrivalReply};
 ghost use Rattle.drr.specs.Computed.{pickOf, pickReply};
 
 // The rows' lengths, as an array of arrays.
-fn cells_of(rows: [Row; 16]) -> [[u16; 32]; 16]
+pub fn cells_of(rows: [Row; 16]) -> [[u16; 32]; 16]
     ensures { λ r. ⌜ r ≡ cellsIn rows ⌝ }
 {
     let mut out = [[0u16; 32]; 16];
@@ -40,7 +40,7 @@ fn cells_of(rows: [Row; 16]) -> [[u16; 32]; 16]
 }
 
 // The rows made of their lengths.
-fn rows_of(cells: [[u16; 32]; 16]) -> [Row; 16]
+pub fn rows_of(cells: [[u16; 32]; 16]) -> [Row; 16]
     ensures { λ r. ⌜ r ≡ rowsFrom cells ⌝ }
 {
     let none = Row {

@@ -1,0 +1,27 @@
+use mathlib.Core.Path.{_≡_, ap, _∙_}
+use borrow.Author.Needs.{needs}
+use Rattle.drr.specs.declared.State.{State}
+use Rattle.drr.specs.State.{lineIn}
+use Rattle.drr.specs.Answers.{Reply}
+use Rattle.drr.specs.Computed.{pickReply}
+use Rattle.exports.specs.Told.{told}
+use Rattle.exports.proofs.calls.wikulambag_pick.Statement.{statement}
+use Rattle.exports.proofs.calls.wikulambag_pick.Tie as tie
+
+returns : tie.Need-returns
+returns c =
+    let g = c .before in
+    let p = g .before .before .before .before .before .before .before .before in
+    let a = p .before .before .before .before .before .before .args in
+    let e = p .pick .ensures ∙ ap (λ (s : State). pickReply s) (p .before .state-of .ensures) in
+    (c .pick-told .ensures ∙ ap (λ (r : Reply). told (r .answer)) e, g .give .ensures ∙ ap (λ (r : Reply). lineIn (r .state .line)) e)
+
+pub wikulambag-pick-spec : {M : Type 1} → statement M
+wikulambag-pick-spec =
+    tie.close
+    (tie.spec
+    (λ c κs. _)
+    (λ c κs. _)
+    (λ c κs. _)
+    (λ c κs. _)
+    returns)
