@@ -1,0 +1,333 @@
+//! The stored cases: small run files, each with the listing it must give.
+//!
+//! `cases --write DIR` writes them and their README; `cases DRRRUN DIR` runs DRRRUN and the second
+//! program on each stored file and compares with the stored listing.
+
+use std::io::{Error, Result};
+use std::path::Path;
+use std::process::exit;
+
+mod drr;
+mod process;
+
+struct Case {
+    name: &'static str,
+    says: &'static str,
+    file: Vec<u8>,
+    /// Lines worked out by hand from the requirement; the listing has them in this order.
+    telling: &'static [&'static str],
+}
+
+fn case(
+    name: &'static str,
+    says: &'static str,
+    flows: &[files::Flow],
+    events: &[files::Event],
+    telling: &'static [&'static str],
+) -> Case {
+    Case {
+        name,
+        says,
+        file: files::plain(flows, events),
+        telling,
+    }
+}
+
+fn cases() -> Vec<Case> {
+    let mut cases = document_cases();
+    cases.extend(table_cases());
+    cases.extend(least_quantum_cases());
+    cases.extend(quantum_cases());
+    cases.extend(maximum_cases());
+    cases.extend(length_cases());
+    cases.extend(waiting_cases());
+    cases.extend(tick_cases());
+    cases
+}
+
+/// The two whose whole listing the requirement prints.
+fn document_cases() -> Vec<Case> {
+    let worked = Case {
+        name: "worked",
+        says: "the worked example",
+        file: files::worked(),
+        telling: &[
+            "S 0 0 200 300 1",
+            "D 100 2 700 3",
+            "S 200 2 400 0 2",
+            "S 600 0 750 50 1",
+            "S 1350 1 500 100 1",
+            "S 1850 1 250 150 1",
+            "E 2100 5 1",
+        ],
+    };
+    let says = "a file with no events";
+    let none = case("no-events", says, &[(500, 800)], &[], &["E 0 0 0"]);
+    vec![worked, none]
+}
+
+fn table_cases() -> Vec<Case> {
+    let events: Vec<files::Event> = (0..16).map(|f| (0, f, 10 * (f + 1))).collect();
+    vec![
+        // lengths 10 to 160 in the order of the flows: the last starts after 10 + 20 + .. + 150
+        case(
+            "flows-16",
+            "16 flows, one packet each",
+            &[(160, 160); 16],
+            &events,
+            &["S 0 0 10 150 1", "S 1200 15 160 0 1", "E 1360 16 0"],
+        ),
+        case(
+            "flows-17",
+            "17 flows: refused",
+            &[(160, 160); 17],
+            &events,
+            &["R 5 0"],
+        ),
+    ]
+}
+
+fn quantum_cases() -> Vec<Case> {
+    let three = [(0, 0, 9_216); 3];
+    vec![
+        case(
+            "quantum-0",
+            "quantum 0 of flow 1: refused",
+            &[(500, 800), (0, 800)],
+            &three,
+            &["R 6 1"],
+        ),
+        case(
+            "quantum-65535",
+            "quantum 65,535: three of the longest packets in one visit",
+            &[(65_535, 9_216)],
+            &three,
+            &[
+                "S 0 0 9216 56319 1",
+                "S 9216 0 9216 47103 0",
+                "S 18432 0 9216 37887 0",
+                "E 27648 3 0",
+            ],
+        ),
+        case(
+            "quantum-65536",
+            "quantum 65,536: refused",
+            &[(65_536, 9_216)],
+            &three,
+            &["R 6 0"],
+        ),
+    ]
+}
+
+fn least_quantum_cases() -> Vec<Case> {
+    let two = [(0, 0, 3), (0, 0, 2)];
+    vec![
+        case(
+            "quantum-1",
+            "quantum 1: a visit for each byte",
+            &[(1, 800)],
+            &two,
+            &["S 0 0 3 0 3", "S 3 0 2 0 2", "E 5 2 0"],
+        ),
+        case(
+            "quantum-1-packet-9216",
+            "quantum 1 with a packet of 9,216: as many visits alone on the line",
+            &[(1, 9_216)],
+            &[(0, 0, 9_216)],
+            &["S 0 0 9216 0 9216", "E 9216 1 0"],
+        ),
+    ]
+}
+
+fn maximum_cases() -> Vec<Case> {
+    let long = [(0, 0, 9_216)];
+    vec![
+        case(
+            "maximum-0",
+            "maximum 0 of flow 1: refused",
+            &[(500, 800), (500, 0)],
+            &long,
+            &["R 7 1"],
+        ),
+        case(
+            "maximum-1",
+            "maximum 1: a packet of 1 is sent, one of 2 refused",
+            &[(500, 1)],
+            &[(0, 0, 1), (0, 0, 2)],
+            &["D 0 0 2 3", "S 0 0 1 499 1", "E 1 1 1"],
+        ),
+        // six quanta are 9,000, seven are 10,500
+        case(
+            "maximum-9216",
+            "maximum 9,216: the longest packet, seven quanta of 1,500",
+            &[(1_500, 9_216)],
+            &long,
+            &["S 0 0 9216 1284 7", "E 9216 1 0"],
+        ),
+        case(
+            "maximum-9217",
+            "maximum 9,217: refused",
+            &[(1_500, 9_217)],
+            &long,
+            &["R 7 0"],
+        ),
+    ]
+}
+
+/// Under maximum 9,216.
+fn length_cases() -> Vec<Case> {
+    let with = |name, says, length, telling| {
+        case(name, says, &[(10_000, 9_216)], &[(5, 0, length)], telling)
+    };
+    vec![
+        with(
+            "length-0",
+            "length 0: a refused event",
+            0,
+            &["D 5 0 0 2", "E 5 0 1"],
+        ),
+        with("length-1", "length 1", 1, &["S 5 0 1 9999 1", "E 6 1 0"]),
+        with(
+            "length-9216",
+            "length 9,216 under maximum 9,216",
+            9_216,
+            &["S 5 0 9216 784 1", "E 9221 1 0"],
+        ),
+        with(
+            "length-9217",
+            "length 9,217 under maximum 9,216: a refused event",
+            9_217,
+            &["D 5 0 9217 3", "E 5 0 1"],
+        ),
+    ]
+}
+
+/// Ten packets of 10 go on a quantum of 100; the 31st and 32nd are the first of the fourth visit.
+fn waiting_cases() -> Vec<Case> {
+    let with = |name, says, ticks: &[u32], telling| {
+        let events: Vec<files::Event> = ticks.iter().map(|&tick| (tick, 0, 10)).collect();
+        case(name, says, &[(100, 100)], &events, telling)
+    };
+    vec![
+        with(
+            "waiting-32",
+            "32 packets at tick 0: all accepted",
+            &[0; 32],
+            &["S 0 0 10 90 1", "S 310 0 10 80 0", "E 320 32 0"],
+        ),
+        with(
+            "waiting-33",
+            "33 packets at tick 0: the last refused",
+            &[0; 33],
+            &["D 0 0 10 4", "S 310 0 10 80 0", "E 320 32 1"],
+        ),
+        with(
+            "waiting-room-again",
+            "32 packets at tick 0, one more when the first has left: it finds room",
+            &[&[0; 32][..], &[10]].concat(),
+            &["S 310 0 10 80 0", "S 320 0 10 70 0", "E 330 33 0"],
+        ),
+    ]
+}
+
+/// Flow 0 comes first whatever the file order, and its packet of tick 37, the end of the first one,
+/// is booked in time for the open visit.
+fn tick_cases() -> Vec<Case> {
+    vec![case(
+        "equal-ticks",
+        "three events at one tick, one at the tick at which a packet ends",
+        &[(100, 100), (100, 100)],
+        &[(7, 1, 40), (7, 0, 30), (7, 1, 20), (37, 0, 10)],
+        &[
+            "S 7 0 30 70 1",
+            "S 37 0 10 60 0",
+            "S 47 1 40 60 1",
+            "S 87 1 20 40 0",
+            "E 107 4 0",
+        ],
+    )]
+}
+
+const README: &str = "# Stored cases
+
+Each `NAME.run` is a run file, `NAME.out` what `drrrun` prints for it. The listings of `worked` and
+`no-events` are the requirement's own. The others are the second program's (`tests/second/drr.rs`),
+which had to have in them, in this order, the lines that `tests/second/cases.rs` gives for each case,
+worked out by hand from the requirement.
+
+`tests/second/run` checks all of them. After it has built the programs, this writes them again:
+
+    target/second/cases --write tests/cases
+
+";
+
+fn main() {
+    let words: Vec<String> = std::env::args().skip(1).collect();
+    let done = match &words[..] {
+        [option, dir] if option == "--write" => write(Path::new(dir)),
+        [drrrun, dir] => check(drrrun, Path::new(dir)),
+        _ => Err(Error::other("usage: cases --write|DRRRUN DIR")),
+    };
+    match done {
+        Ok(good) => exit(i32::from(!good)),
+        Err(error) => {
+            eprintln!("cases: {error}");
+            exit(2);
+        }
+    }
+}
+
+fn second(file: &[u8]) -> String {
+    drr::text(&drr::run(file, 6 * 1_025))
+}
+
+/// Whether the listing has these lines in this order.
+fn has_in_order(listing: &str, telling: &[&str]) -> bool {
+    let mut lines = listing.lines();
+    telling.iter().all(|line| lines.any(|other| other == *line))
+}
+
+fn write(dir: &Path) -> Result<bool> {
+    let mut readme = README.to_string();
+    for case in cases() {
+        let listing = second(&case.file);
+        assert!(has_in_order(&listing, case.telling), "{}", case.name);
+        std::fs::write(dir.join(format!("{}.run", case.name)), &case.file)?;
+        std::fs::write(dir.join(format!("{}.out", case.name)), listing)?;
+        readme += &format!("- `{}`: {}\n", case.name, case.says);
+    }
+    std::fs::write(dir.join("README.md"), readme)?;
+    Ok(true)
+}
+
+fn check(drrrun: &str, dir: &Path) -> Result<bool> {
+    let cases = cases();
+    let mut good = 0;
+    for case in &cases {
+        let verdict = verdict(case, drrrun, dir);
+        good += usize::from(verdict == "ok");
+        println!("{}: {verdict}", case.name);
+    }
+    println!("{} cases, {good} as expected", cases.len());
+    Ok(good == cases.len())
+}
+
+fn verdict(case: &Case, drrrun: &str, dir: &Path) -> &'static str {
+    let stored = |end| std::fs::read(dir.join(format!("{}.{end}", case.name)));
+    let (Ok(file), Ok(listing)) = (stored("run"), stored("out")) else {
+        return "MISSING";
+    };
+    if file != case.file {
+        return "NOT THE FILE DESCRIBED";
+    }
+    if !has_in_order(&String::from_utf8_lossy(&listing), case.telling) {
+        return "WITHOUT ITS TELLING LINES";
+    }
+    if second(&file).as_bytes() != listing {
+        return "SECOND PROGRAM DIFFERS";
+    }
+    match process::run(drrrun, &file) {
+        Ok((given, true)) if given == listing => "ok",
+        _ => "DRRRUN DIFFERS",
+    }
+}

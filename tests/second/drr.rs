@@ -1,0 +1,878 @@
+//! A second, independent implementation of the requirement: the scheduler, its two figures and the
+//! run. The proved program is compared with it.
+
+// each program that takes this file in uses only a part of it
+#![allow(dead_code)]
+
+use std::ops::RangeInclusive;
+
+// The table of least and most.
+const FLOWS: RangeInclusive<usize> = 1..=16;
+const QUANTUM: RangeInclusive<u32> = 1..=65_535;
+const MAXIMUM: RangeInclusive<u32> = 1..=9_216;
+const WAITING: u8 = 32;
+const EVENTS: u64 = 1_024;
+
+/// The table and its state. Unused cells and unused flows are zero.
+#[derive(Clone, PartialEq, Debug)]
+pub struct State {
+    pub n: usize,
+    pub quanta: [u32; 16],
+    pub maxima: [u32; 16],
+    pub deficits: [u32; 16],
+    /// Packets waiting, per flow.
+    pub counts: [u8; 16],
+    /// The flow visited last.
+    pub place: usize,
+    /// Whether the visit to the place is open.
+    pub opened: bool,
+    /// The waiting lengths, oldest first.
+    pub rows: [[u16; 32]; 16],
+}
+
+/// What a pick answers.
+#[derive(Clone, Copy, PartialEq, Debug)]
+pub enum Picked {
+    Idle,
+    Sent {
+        flow: usize,
+        length: u32,
+        deficit: u32,
+        visits: u32,
+    },
+    Refused(u32),
+}
+
+/// A refusal number, and the number of the record at fault (0 where there is none).
+#[derive(Clone, Copy, PartialEq, Debug)]
+pub struct Refused {
+    pub number: u32,
+    pub place: usize,
+}
+
+fn refused<T>(number: u32, place: usize) -> Result<T, Refused> {
+    Err(Refused { number, place })
+}
+
+/// The empty table: no flow, everything zero and closed.
+pub fn empty() -> State {
+    State {
+        n: 0,
+        quanta: [0; 16],
+        maxima: [0; 16],
+        deficits: [0; 16],
+        counts: [0; 16],
+        place: 0,
+        opened: false,
+        rows: [[0; 32]; 16],
+    }
+}
+
+/// A fresh state from the list of (quantum, maximum).
+pub fn setup(flows: &[(u32, u32)]) -> Result<State, Refused> {
+    if !FLOWS.contains(&flows.len()) {
+        return refused(5, 0);
+    }
+    test_ranges(flows)?;
+    let mut s = empty();
+    s.n = flows.len();
+    s.place = s.n - 1;
+    for (f, &(quantum, maximum)) in flows.iter().enumerate() {
+        s.quanta[f] = quantum;
+        s.maxima[f] = maximum;
+    }
+    Ok(s)
+}
+
+/// Refusals 6 and 7, flow by flow and 6 before 7.
+fn test_ranges(flows: &[(u32, u32)]) -> Result<(), Refused> {
+    let tests = (0..flows.len()).flat_map(|place| [6, 7].map(|number| (number, place)));
+    for (number, place) in tests {
+        let (quantum, maximum) = flows[place];
+        let fits = match number {
+            6 => QUANTUM.contains(&quantum),
+            _ => MAXIMUM.contains(&maximum),
+        };
+        if !fits {
+            return refused(number, place);
+        }
+    }
+    Ok(())
+}
+
+/// Whether any state at all is sound: the clauses in the requirement's order. Each one may lean on
+/// those before it, so that no index leaves its array.
+pub fn sound(s: &State) -> bool {
+    let place_fits = s.place < s.n || (s.n == 0 && s.place == 0 && !s.opened);
+    s.n <= 16
+        && place_fits
+        && (0..s.n).all(|f| numbers_in_range(s, f))
+        && (0..s.n).all(|f| lengths_in_range(s, f))
+        && (0..s.n).all(|f| deficit_fits(s, f))
+        && unused_is_zero(s)
+}
+
+fn numbers_in_range(s: &State, f: usize) -> bool {
+    QUANTUM.contains(&s.quanta[f]) && MAXIMUM.contains(&s.maxima[f]) && s.counts[f] <= WAITING
+}
+
+fn lengths_in_range(s: &State, f: usize) -> bool {
+    let waiting = &s.rows[f][..usize::from(s.counts[f])];
+    waiting
+        .iter()
+        .all(|&length| length >= 1 && u32::from(length) <= s.maxima[f])
+}
+
+fn deficit_fits(s: &State, f: usize) -> bool {
+    if s.opened && f == s.place {
+        s.deficits[f] < s.quanta[f]
+    } else if s.counts[f] == 0 {
+        s.deficits[f] == 0
+    } else {
+        s.deficits[f] < u32::from(s.rows[f][0])
+    }
+}
+
+fn unused_is_zero(s: &State) -> bool {
+    let cells = |f: usize, used: usize| s.rows[f][used..].iter().all(|&cell| cell == 0);
+    let numbers = |f: usize| s.quanta[f] == 0 && s.maxima[f] == 0 && s.deficits[f] == 0;
+    (0..s.n).all(|f| cells(f, usize::from(s.counts[f])))
+        && (s.n..16).all(|f| numbers(f) && s.counts[f] == 0 && cells(f, 0))
+}
+
+/// An arrival: the refusal number, or 0 where it was accepted.
+pub fn arrival(s: &mut State, flow: usize, length: u32) -> u32 {
+    if !sound(s) {
+        return 8;
+    }
+    book(s, flow, length)
+}
+
+/// An arrival at a sound state. A run, whose states are all sound, books with this.
+fn book(s: &mut State, flow: usize, length: u32) -> u32 {
+    for number in [1, 2, 3, 4] {
+        let given = match number {
+            1 => flow >= s.n,
+            2 => length == 0,
+            3 => length > s.maxima[flow],
+            _ => s.counts[flow] >= WAITING,
+        };
+        if given {
+            return number;
+        }
+    }
+    if let Some(end) = s.rows[flow].get_mut(usize::from(s.counts[flow])) {
+        *end = length as u16;
+    }
+    s.counts[flow] += 1;
+    0
+}
+
+/// A pick.
+pub fn pick(s: &mut State) -> Picked {
+    if !sound(s) {
+        return Picked::Refused(8);
+    }
+    serve(s)
+}
+
+/// A pick from a sound state, in the three steps of the requirement.
+fn serve(s: &mut State) -> Picked {
+    let mut visits = 0;
+    // 1. an open visit goes on while its flow has a packet and the credit for it
+    if s.opened {
+        if may_send(s) {
+            return send(s, visits);
+        }
+        s.opened = false;
+        if s.counts[s.place] == 0 {
+            s.deficits[s.place] = 0;
+        }
+    }
+    loop {
+        // 2. the next flow with a packet waiting
+        let Some(flow) = next_waiting(s) else {
+            return Picked::Idle;
+        };
+        // 3. a visit to it, kept open only if its credit reaches
+        s.place = flow;
+        s.opened = true;
+        s.deficits[flow] += s.quanta[flow];
+        visits += 1;
+        if may_send(s) {
+            return send(s, visits);
+        }
+        s.opened = false;
+    }
+}
+
+/// The first flow with a packet waiting, from the flow after the place, the place itself last.
+fn next_waiting(s: &State) -> Option<usize> {
+    let mut round = (1..=s.n).map(|step| (s.place + step) % s.n);
+    round.find(|&flow| s.counts[flow] > 0)
+}
+
+/// Whether the place has a packet waiting, and the credit for it.
+fn may_send(s: &State) -> bool {
+    let oldest = u32::from(s.rows[s.place][0]);
+    s.counts[s.place] > 0 && oldest <= s.deficits[s.place]
+}
+
+/// Sends the oldest packet of the place. The visit stays open.
+fn send(s: &mut State, visits: u32) -> Picked {
+    let flow = s.place;
+    let length = u32::from(s.rows[flow][0]);
+    s.rows[flow].copy_within(1.., 0);
+    s.rows[flow][31] = 0;
+    s.counts[flow] -= 1;
+    let deficit = s.deficits[flow] - length;
+    s.deficits[flow] = deficit;
+    Picked::Sent {
+        flow,
+        length,
+        deficit,
+        visits,
+    }
+}
+
+/// C of a flow, from Q and l of the flow, F and L of the table. It is 0 for a flow above 15.
+pub fn charge_c(s: &State, flow: usize) -> u128 {
+    let sum = |numbers: &[u32; 16]| {
+        numbers
+            .iter()
+            .map(|&number| u128::from(number))
+            .sum::<u128>()
+    };
+    let of = |numbers: &[u32; 16]| numbers.get(flow).map_or(0, |&number| u128::from(number));
+    let (q, l) = (of(&s.quanta), of(&s.maxima));
+    q * (sum(&s.maxima) - l) + (sum(&s.quanta) - q) * (q + l)
+}
+
+/// The bytes owed to a flow once the line has sent `bytes`; refusals 8 and 1.
+pub fn owed(s: &State, flow: usize, bytes: u64) -> Result<u64, u32> {
+    if !sound(s) {
+        return Err(8);
+    }
+    if flow >= s.n {
+        return Err(1);
+    }
+    // k times F is at least Q times S - C, written without a number below 0. Since Q is at most F,
+    // the bytes sent are always enough.
+    let f: u128 = s.quanta.iter().map(|&quantum| u128::from(quantum)).sum();
+    let c = charge_c(s, flow);
+    let asked = u128::from(s.quanta[flow]) * u128::from(bytes);
+    Ok(least(bytes, |k| u128::from(k) * f + c >= asked))
+}
+
+/// The least number of bytes at which a flow is owed 1 or more; refusals 8 and 1.
+pub fn wait(s: &State, flow: usize) -> Result<u64, u32> {
+    owed(s, flow, 0)?;
+    Ok(least(u64::MAX, |bytes| {
+        owed(s, flow, bytes).is_ok_and(|k| k >= 1)
+    }))
+}
+
+/// The least number that holds. What holds for one number holds for all above it, and for `most`,
+/// so halving finds it.
+fn least(most: u64, holds: impl Fn(u64) -> bool) -> u64 {
+    let (mut low, mut high) = (0, most);
+    while low < high {
+        let middle = low + (high - low) / 2;
+        if holds(middle) {
+            high = middle;
+        } else {
+            low = middle + 1;
+        }
+    }
+    low
+}
+
+/// What a run file holds: (quantum, maximum) of each flow, and the events.
+#[derive(Clone, PartialEq, Debug)]
+pub struct RunFile {
+    pub flows: Vec<(u32, u32)>,
+    pub events: Vec<Event>,
+}
+
+#[derive(Clone, Copy, PartialEq, Debug)]
+pub struct Event {
+    pub tick: u32,
+    pub flow: u16,
+    pub length: u16,
+}
+
+/// Where a table of 8-byte records lies in the file. Sums are made in 64 bits and cannot wrap.
+struct Table {
+    offset: u64,
+    records: u64,
+}
+
+impl Table {
+    fn end(&self) -> u64 {
+        self.offset + 8 * self.records
+    }
+
+    fn against_the_rules(&self, size: u64) -> bool {
+        self.offset % 4 != 0 || self.offset < 20 || self.end() > size
+    }
+
+    /// A table without records ends where it starts, and so shares no byte with any other.
+    fn shares_with(&self, other: &Table) -> bool {
+        let first = self.offset.max(other.offset);
+        let end = self.end().min(other.end());
+        first < end
+    }
+}
+
+/// The header, beside the true size of the file.
+struct Header {
+    size: u64,
+    stated: u64,
+    reserved: u64,
+    flows: Table,
+    events: Table,
+}
+
+impl Header {
+    fn of(file: &[u8]) -> Header {
+        let field = |at, bytes| u64::from(number_at(file, at, bytes));
+        Header {
+            size: file.len() as u64,
+            stated: field(12, 4),
+            reserved: field(16, 4),
+            flows: Table {
+                offset: field(4, 4),
+                records: field(0, 2),
+            },
+            events: Table {
+                offset: field(8, 4),
+                records: field(2, 2),
+            },
+        }
+    }
+
+    /// Whether the header alone gives this refusal.
+    fn gives(&self, number: u32) -> bool {
+        let tables = [&self.flows, &self.events];
+        match number {
+            9 => self.size < 20 || self.size > 12_288 || self.stated != self.size,
+            10 => self.reserved != 0,
+            5 => self.flows.records == 0 || self.flows.records > 16,
+            11 => self.events.records > EVENTS,
+            _ => {
+                tables
+                    .iter()
+                    .any(|table| table.against_the_rules(self.size))
+                    || self.flows.shares_with(&self.events)
+            }
+        }
+    }
+}
+
+/// The little-endian number of so many bytes; bytes past the end of the file count as 0.
+fn number_at(file: &[u8], at: usize, bytes: usize) -> u32 {
+    let field = file.iter().skip(at).take(bytes);
+    field
+        .rev()
+        .fold(0, |number, &byte| number * 256 + u32::from(byte))
+}
+
+/// Reads a run file: refusals 9, 10, 5, 11, 12, then 6 and 7 by flow, then 13.
+pub fn read(file: &[u8]) -> Result<RunFile, Refused> {
+    let header = Header::of(file);
+    for number in [9, 10, 5, 11, 12] {
+        if header.gives(number) {
+            return refused(number, 0);
+        }
+    }
+    let flows = records(file, &header.flows, |record| {
+        (number_at(record, 0, 4), number_at(record, 4, 4))
+    });
+    test_ranges(&flows)?;
+    let events = records(file, &header.events, |record| Event {
+        tick: number_at(record, 0, 4),
+        flow: number_at(record, 4, 2) as u16,
+        length: number_at(record, 6, 2) as u16,
+    });
+    test_ticks(&events)?;
+    Ok(RunFile { flows, events })
+}
+
+/// The records of a table, read from the part of the file that starts at its offset.
+fn records<T>(file: &[u8], table: &Table, read: impl Fn(&[u8]) -> T) -> Vec<T> {
+    let part = file.get(table.offset as usize..).unwrap_or(&[]);
+    let record = |k: u64| part.get(8 * k as usize..).unwrap_or(&[]);
+    (0..table.records).map(|k| read(record(k))).collect()
+}
+
+/// Refusal 13: an event's tick below the one before.
+fn test_ticks(events: &[Event]) -> Result<(), Refused> {
+    for place in 1..events.len() {
+        if events[place].tick < events[place - 1].tick {
+            return refused(13, place);
+        }
+    }
+    Ok(())
+}
+
+/// Runs a file; `room` is how many numbers the lent list takes.
+pub fn run(file: &[u8], room: usize) -> Result<Vec<[u64; 6]>, Refused> {
+    let RunFile { flows, events } = read(file)?;
+    if room < 6 * (events.len() + 1) {
+        return refused(14, 0);
+    }
+    Ok(listing(setup(&flows)?, &events))
+}
+
+/// A run in progress.
+struct Run<'a> {
+    state: State,
+    /// The events not yet booked.
+    events: &'a [Event],
+    lines: Vec<[u64; 6]>,
+    refused: u64,
+}
+
+impl Run<'_> {
+    /// Books all events with a tick at or before now, in file order; a refused one gives a line.
+    fn book_until(&mut self, now: u64) {
+        while let Some((event, later)) = self.events.split_first() {
+            let (tick, flow, length) = (u64::from(event.tick), event.flow, event.length);
+            if tick > now {
+                return;
+            }
+            self.events = later;
+            let number = book(&mut self.state, flow.into(), length.into());
+            if number != 0 {
+                self.refused += 1;
+                self.lines
+                    .push([2, tick, flow.into(), length.into(), number.into(), 0]);
+            }
+        }
+    }
+
+    /// Makes a pick; the length of the packet sent, or none on idle. A packet sent gives a line.
+    fn pick_at(&mut self, now: u64) -> Option<u64> {
+        let Picked::Sent {
+            flow,
+            length,
+            deficit,
+            visits,
+        } = serve(&mut self.state)
+        else {
+            return None;
+        };
+        let answer = [length, deficit, visits].map(u64::from);
+        self.lines
+            .push([1, now, flow as u64, answer[0], answer[1], answer[2]]);
+        Some(answer[0])
+    }
+}
+
+/// The run of a fresh state on a line that sends one byte per tick.
+fn listing(state: State, events: &[Event]) -> Vec<[u64; 6]> {
+    let mut run = Run {
+        state,
+        events,
+        lines: Vec::new(),
+        refused: 0,
+    };
+    let (mut now, mut sent) = (0, 0);
+    // when the line fell free; without any sending the latest event's tick stands for it
+    let mut end = events.last().map_or(0, |event| u64::from(event.tick));
+    run.book_until(0);
+    loop {
+        if let Some(length) = run.pick_at(now) {
+            sent += 1;
+            now += length;
+            end = now;
+            run.book_until(end);
+        } else if let Some(next) = run.events.first() {
+            now = next.tick.into();
+            run.book_until(now);
+        } else {
+            break;
+        }
+    }
+    run.lines.push([3, end, sent, run.refused, 0, 0]);
+    run.lines
+}
+
+/// What `drrrun` prints for an answer.
+pub fn text(answer: &Result<Vec<[u64; 6]>, Refused>) -> String {
+    match answer {
+        Ok(lines) => lines.iter().map(line_text).collect(),
+        Err(refused) => format!("R {} {}\n", refused.number, refused.place),
+    }
+}
+
+/// One line: a letter for its kind, and the fields that this kind prints.
+fn line_text(line: &[u64; 6]) -> String {
+    let (letter, fields) = match line[0] {
+        1 => ("S", 5),
+        2 => ("D", 4),
+        _ => ("E", 3),
+    };
+    let mut text = letter.to_string();
+    for field in &line[1..=fields] {
+        text += &format!(" {field}");
+    }
+    text + "\n"
+}
+
+#[cfg(test)]
+mod tests {
+    use super::*;
+
+    /// The table of the worked example.
+    const TABLE: [(u32, u32); 3] = [(500, 800), (300, 800), (400, 600)];
+
+    fn table() -> State {
+        setup(&TABLE).unwrap()
+    }
+
+    fn sent(flow: usize, length: u32, deficit: u32, visits: u32) -> Picked {
+        Picked::Sent {
+            flow,
+            length,
+            deficit,
+            visits,
+        }
+    }
+
+    /// A run file without gaps, the flow table first.
+    fn file(flows: &[(u32, u32)], events: &[(u32, u16, u16)]) -> Vec<u8> {
+        let end = 20 + 8 * flows.len() as u32;
+        let size = end + 8 * events.len() as u32;
+        let mut file = Vec::new();
+        file.extend((flows.len() as u16).to_le_bytes());
+        file.extend((events.len() as u16).to_le_bytes());
+        for field in [20, end, size, 0] {
+            file.extend(field.to_le_bytes());
+        }
+        for (quantum, maximum) in flows {
+            file.extend(quantum.to_le_bytes());
+            file.extend(maximum.to_le_bytes());
+        }
+        for (tick, flow, length) in events {
+            file.extend(tick.to_le_bytes());
+            file.extend(flow.to_le_bytes());
+            file.extend(length.to_le_bytes());
+        }
+        file
+    }
+
+    fn listed(flows: &[(u32, u32)], events: &[(u32, u16, u16)]) -> String {
+        text(&run(&file(flows, events), 6 * (events.len() + 1)))
+    }
+
+    #[test]
+    fn p01_c_of_flow_0() {
+        assert_eq!(charge_c(&table(), 0), 1_610_000);
+    }
+
+    #[test]
+    fn p02_c_of_flow_1() {
+        assert_eq!(charge_c(&table(), 1), 1_410_000);
+    }
+
+    #[test]
+    fn p03_c_of_flow_2() {
+        assert_eq!(charge_c(&table(), 2), 1_440_000);
+    }
+
+    #[test]
+    fn p04_wait_of_flow_0() {
+        assert_eq!(wait(&table(), 0), Ok(3221));
+    }
+
+    #[test]
+    fn p05_wait_of_flow_1() {
+        assert_eq!(wait(&table(), 1), Ok(4701));
+    }
+
+    #[test]
+    fn p06_wait_of_flow_2() {
+        assert_eq!(wait(&table(), 2), Ok(3601));
+    }
+
+    #[test]
+    fn p07_nothing_owed_yet() {
+        assert_eq!(owed(&table(), 0, 3220), Ok(0));
+    }
+
+    #[test]
+    fn p08_first_byte_owed() {
+        assert_eq!(owed(&table(), 0, 3221), Ok(1));
+    }
+
+    #[test]
+    fn p09_owed_at_10000() {
+        assert_eq!(owed(&table(), 0, 10_000), Ok(2825));
+    }
+
+    #[test]
+    fn p10_one_flow() {
+        for flow in [(1, 1), (500, 800), (65_535, 9_216)] {
+            let alone = setup(&[flow]).unwrap();
+            assert_eq!(owed(&alone, 0, 7), Ok(7));
+            assert_eq!(wait(&alone, 0), Ok(1));
+        }
+    }
+
+    #[test]
+    fn p11_two_equal_flows() {
+        let two = setup(&[(1500, 1500), (1500, 1500)]).unwrap();
+        assert_eq!([wait(&two, 0), wait(&two, 1)], [Ok(4501), Ok(4501)]);
+    }
+
+    #[test]
+    fn p12_pick_from_the_fresh_state() {
+        let mut s = table();
+        assert_eq!(pick(&mut s), Picked::Idle);
+        assert_eq!(s, table());
+    }
+
+    /// The worked example, with the state after each call.
+    #[test]
+    fn worked_example_state_by_state() {
+        let mut s = table();
+        let seen = |s: &State| {
+            (
+                s.place,
+                s.opened,
+                s.deficits[..3].to_vec(),
+                s.counts[..3].to_vec(),
+            )
+        };
+        assert_eq!(seen(&s), (2, false, vec![0, 0, 0], vec![0, 0, 0]));
+        for (flow, length) in [(0, 200), (0, 750), (1, 500), (2, 400)] {
+            assert_eq!(arrival(&mut s, flow, length), 0);
+        }
+        assert_eq!(seen(&s), (2, false, vec![0, 0, 0], vec![2, 1, 1]));
+        assert_eq!(pick(&mut s), sent(0, 200, 300, 1));
+        assert_eq!(seen(&s), (0, true, vec![300, 0, 0], vec![1, 1, 1]));
+        assert_eq!(arrival(&mut s, 2, 700), 3);
+        assert_eq!(seen(&s), (0, true, vec![300, 0, 0], vec![1, 1, 1]));
+        assert_eq!(pick(&mut s), sent(2, 400, 0, 2));
+        assert_eq!(seen(&s), (2, true, vec![300, 300, 0], vec![1, 1, 0]));
+        assert_eq!(pick(&mut s), sent(0, 750, 50, 1));
+        assert_eq!(seen(&s), (0, true, vec![50, 300, 0], vec![0, 1, 0]));
+        assert_eq!(arrival(&mut s, 1, 250), 0);
+        assert_eq!(s.rows[1][..3], [500, 250, 0]);
+        assert_eq!(pick(&mut s), sent(1, 500, 100, 1));
+        assert_eq!(seen(&s), (1, true, vec![0, 100, 0], vec![0, 1, 0]));
+        assert_eq!(pick(&mut s), sent(1, 250, 150, 1));
+        assert_eq!(seen(&s), (1, true, vec![0, 150, 0], vec![0, 0, 0]));
+        assert_eq!(pick(&mut s), Picked::Idle);
+        let mut end = table();
+        end.place = 1;
+        assert_eq!(s, end);
+    }
+
+    #[test]
+    fn worked_example_as_a_run_file() {
+        let events = [
+            (0, 0, 200),
+            (0, 0, 750),
+            (0, 1, 500),
+            (0, 2, 400),
+            (100, 2, 700),
+            (900, 1, 250),
+        ];
+        assert_eq!(file(&TABLE, &events).len(), 92);
+        let expected = "S 0 0 200 300 1\nD 100 2 700 3\nS 200 2 400 0 2\nS 600 0 750 50 1\n\
+                        S 1350 1 500 100 1\nS 1850 1 250 150 1\nE 2100 5 1\n";
+        assert_eq!(listed(&TABLE, &events), expected);
+    }
+
+    #[test]
+    fn second_idle_changes_nothing() {
+        let mut s = table();
+        arrival(&mut s, 1, 200);
+        assert_eq!(pick(&mut s), sent(1, 200, 100, 1));
+        assert_eq!(pick(&mut s), Picked::Idle);
+        assert_eq!((s.place, s.opened, s.deficits[1]), (1, false, 0));
+        let once = s.clone();
+        assert_eq!(pick(&mut s), Picked::Idle);
+        assert_eq!(s, once);
+    }
+
+    #[test]
+    fn emptied_flow_keeps_its_credit_until_the_next_pick() {
+        let mut s = table();
+        arrival(&mut s, 0, 200);
+        assert_eq!(pick(&mut s), sent(0, 200, 300, 1));
+        arrival(&mut s, 0, 300);
+        assert_eq!(pick(&mut s), sent(0, 300, 0, 0));
+    }
+
+    #[test]
+    fn room_for_32_waiting() {
+        let mut s = table();
+        for _ in 0..32 {
+            assert_eq!(arrival(&mut s, 0, 100), 0);
+        }
+        let full = s.clone();
+        assert_eq!(arrival(&mut s, 0, 100), 4);
+        assert_eq!(s, full);
+        pick(&mut s);
+        assert_eq!(arrival(&mut s, 0, 100), 0);
+        assert_eq!(arrival(&mut s, 0, 100), 4);
+    }
+
+    #[test]
+    fn refusals_of_an_arrival_in_order() {
+        let mut s = table();
+        let answers = [(3, 0), (16, 801), (usize::MAX, 1)].map(|(f, l)| arrival(&mut s, f, l));
+        assert_eq!(answers, [1, 1, 1]);
+        let answers = [0, 801, u32::MAX, 65_537].map(|length| arrival(&mut s, 0, length));
+        assert_eq!(answers, [2, 3, 3, 3]);
+        assert_eq!(s, table());
+        s.place = 3;
+        assert_eq!(arrival(&mut s, 3, 0), 8);
+        assert_eq!(pick(&mut s), Picked::Refused(8));
+        assert_eq!((owed(&s, 3, 1), wait(&s, 3)), (Err(8), Err(8)));
+        s.place = 2;
+        assert_eq!((owed(&s, 3, 1), wait(&s, 3)), (Err(1), Err(1)));
+        assert_eq!(arrival(&mut empty(), 0, 0), 1);
+        assert_eq!(pick(&mut empty()), Picked::Idle);
+    }
+
+    #[test]
+    fn refusals_of_a_setup_in_order() {
+        let place = |flows: &[(u32, u32)]| setup(flows).map_err(|r| (r.number, r.place)).err();
+        assert_eq!(place(&[]), Some((5, 0)));
+        assert_eq!(place(&[(0, 0); 17]), Some((5, 0)));
+        assert_eq!(place(&[(1, 1); 16]), None);
+        assert_eq!(place(&[(1, 0), (0, 1)]), Some((7, 0)));
+        assert_eq!(place(&[(1, 1), (0, 0)]), Some((6, 1)));
+        assert_eq!(place(&[(65_536, 9_217)]), Some((6, 0)));
+        assert_eq!(place(&[(65_535, 9_216), (65_535, 9_217)]), Some((7, 1)));
+    }
+
+    /// A sound state with a waiting flow, an open one and an empty one.
+    fn busy() -> State {
+        let mut s = table();
+        for (flow, length) in [(0, 200), (1, 500), (1, 10)] {
+            arrival(&mut s, flow, length);
+        }
+        pick(&mut s);
+        s.deficits[1] = 499;
+        assert!(sound(&s));
+        s
+    }
+
+    #[test]
+    fn soundness_clause_by_clause() {
+        let changed = |change: fn(&mut State)| {
+            let mut s = busy();
+            change(&mut s);
+            sound(&s)
+        };
+        let faults: [fn(&mut State); 16] = [
+            |s| s.n = 17,
+            |s| s.place = 3,
+            |s| s.quanta[2] = 0,
+            |s| s.quanta[2] = 65_536,
+            |s| s.maxima[2] = 0,
+            |s| s.maxima[2] = 9_217,
+            |s| s.counts[1] = 33,
+            |s| s.rows[1][1] = 0,
+            |s| s.rows[1][1] = 801,
+            |s| s.deficits[2] = 1,
+            |s| s.deficits[1] = 500,
+            |s| s.deficits[0] = 500,
+            |s| s.opened = false,
+            |s| s.rows[1][2] = 1,
+            |s| s.rows[15][31] = 1,
+            |s| s.deficits[3] = 1,
+        ];
+        for (place, fault) in faults.into_iter().enumerate() {
+            assert!(!changed(fault), "fault {place}");
+        }
+        assert!(changed(|s| s.deficits[0] = 499));
+        assert!(changed(|s| s.rows[1][1] = 800));
+    }
+
+    #[test]
+    fn soundness_of_the_empty_table() {
+        assert!(sound(&empty()));
+        let mut s = empty();
+        s.opened = true;
+        assert!(!sound(&s));
+        s = empty();
+        s.place = 1;
+        assert!(!sound(&s));
+        s = empty();
+        s.quanta[0] = 1;
+        assert!(!sound(&s));
+    }
+
+    /// A run leaves out the test for 8, because every state it can reach is sound.
+    #[test]
+    fn states_stay_sound() {
+        let mut dice = 1_u32;
+        let mut s = setup(&[(1, 50), (70, 60), (20, 9_216)]).unwrap();
+        for _ in 0..50_000 {
+            dice = dice.wrapping_mul(1_664_525).wrapping_add(1_013_904_223);
+            if dice >> 31 == 0 {
+                arrival(&mut s, (dice >> 24) as usize % 4, (dice >> 16) % 64);
+            } else {
+                pick(&mut s);
+            }
+            assert!(sound(&s));
+        }
+    }
+
+    #[test]
+    fn any_state_is_answered() {
+        let mut s = busy();
+        s.n = usize::MAX;
+        s.place = usize::MAX;
+        s.quanta = [u32::MAX; 16];
+        s.maxima = [u32::MAX; 16];
+        s.counts = [u8::MAX; 16];
+        assert_eq!(arrival(&mut s, usize::MAX, u32::MAX), 8);
+        assert_eq!(pick(&mut s), Picked::Refused(8));
+        assert_eq!(owed(&s, 0, u64::MAX), Err(8));
+        assert!(charge_c(&s, 0) > 0 && charge_c(&s, 16) == 0);
+    }
+
+    /// The figures against their closed forms, at the largest numbers too.
+    #[test]
+    fn figures_at_the_edges() {
+        let s = setup(&[(65_535, 9_216); 16]).unwrap();
+        let c = charge_c(&s, 3);
+        assert_eq!(wait(&s, 3), Ok((c / 65_535) as u64 + 1));
+        assert_eq!(
+            owed(&s, 3, u64::MAX),
+            Ok((u64::MAX - (c / 65_535) as u64).div_ceil(16))
+        );
+        let slow = setup(&[(1, 1), (65_535, 9_216)]).unwrap();
+        assert_eq!(wait(&slow, 0), Ok(9_216 + 65_535 * 2 + 1));
+        assert_eq!(owed(&slow, 0, u64::from(u32::MAX)), Ok(65_534));
+    }
+
+    #[test]
+    fn lent_list_too_short() {
+        let bytes = file(&TABLE, &[(0, 0, 1), (0, 9, 1)]);
+        assert_eq!(text(&run(&bytes, 17)), "R 14 0\n");
+        assert_eq!(
+            text(&run(&bytes, 18)),
+            "D 0 9 1 1\nS 0 0 1 499 1\nE 1 1 1\n"
+        );
+        assert_eq!(
+            text(&run(&file(&TABLE, &[(1, 0, 1), (0, 0, 1)]), 0)),
+            "R 13 1\n"
+        );
+    }
+
+    #[test]
+    fn tick_of_the_last_line() {
+        assert_eq!(listed(&TABLE, &[]), "E 0 0 0\n");
+        assert_eq!(listed(&TABLE, &[(7, 3, 1)]), "D 7 3 1 1\nE 7 0 1\n");
+        let late = listed(&TABLE, &[(7, 2, 9), (99, 0, 0)]);
+        assert_eq!(late, "S 7 2 9 391 1\nD 99 0 0 2\nE 16 1 1\n");
+    }
+}
