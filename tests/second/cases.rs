@@ -326,8 +326,8 @@ fn verdict(case: &Case, drrrun: &str, dir: &Path) -> &'static str {
     if second(&file).as_bytes() != listing {
         return "SECOND PROGRAM DIFFERS";
     }
-    match process::run(drrrun, &file) {
-        Ok((given, true)) if given == listing => "ok",
+    match process::run(drrrun, &[], &file) {
+        Ok(given) if given.status.success() && given.stdout == listing => "ok",
         _ => "DRRRUN DIFFERS",
     }
 }

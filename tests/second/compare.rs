@@ -38,7 +38,8 @@ fn compare(drrrun: &str, answers: &str) -> Result<bool> {
     let mut seen = [0; 15];
     let mut stored = Vec::new();
     for file in &files {
-        let (given, good) = process::run(drrrun, &file.bytes)?;
+        let output = process::run(drrrun, &[], &file.bytes)?;
+        let (given, good) = (output.stdout, output.status.success());
         let own = second(file);
         if !good || given != own {
             differ += 1;

@@ -377,8 +377,8 @@ fn number_at(file: &[u8], at: usize, bytes: usize) -> u32 {
         .fold(0, |number, &byte| number * 256 + u32::from(byte))
 }
 
-/// Reads a run file: refusals 9, 10, 5, 11, 12, then 6 and 7 by flow, then 13.
-pub fn read(file: &[u8]) -> Result<RunFile, Refused> {
+/// Reads the flow table of a run file: refusals 9, 10, 5, 11, 12, then 6 and 7 by flow.
+pub fn read_flows(file: &[u8]) -> Result<Vec<(u32, u32)>, Refused> {
     let header = Header::of(file);
     for number in [9, 10, 5, 11, 12] {
         if header.gives(number) {
@@ -389,7 +389,13 @@ pub fn read(file: &[u8]) -> Result<RunFile, Refused> {
         (number_at(record, 0, 4), number_at(record, 4, 4))
     });
     test_ranges(&flows)?;
-    let events = records(file, &header.events, |record| Event {
+    Ok(flows)
+}
+
+/// Reads a run file: the refusals of its flow table, then 13.
+pub fn read(file: &[u8]) -> Result<RunFile, Refused> {
+    let flows = read_flows(file)?;
+    let events = records(file, &Header::of(file).events, |record| Event {
         tick: number_at(record, 0, 4),
         flow: number_at(record, 4, 2) as u16,
         length: number_at(record, 6, 2) as u16,
@@ -518,6 +524,28 @@ fn line_text(line: &[u64; 6]) -> String {
         text += &format!(" {field}");
     }
     text + "\n"
+}
+
+/// What `drrfigures` prints for a file: for each flow its number, quantum, maximum, C, wait, and
+/// owed for each number of bytes.
+pub fn figures_text(file: &[u8], sizes: &[u32]) -> String {
+    let state = match read_flows(file).and_then(|flows| setup(&flows)) {
+        Ok(state) => state,
+        Err(refused) => return text(&Err(refused)),
+    };
+    let line = |flow: usize| {
+        let c = charge_c(&state, flow);
+        let wait = wait(&state, flow).unwrap_or(0);
+        let mut line = format!(
+            "{flow} {} {} {c} {wait}",
+            state.quanta[flow], state.maxima[flow]
+        );
+        for &bytes in sizes {
+            line += &format!(" {}", owed(&state, flow, bytes.into()).unwrap_or(0));
+        }
+        line + "\n"
+    };
+    (0..state.n).map(line).collect()
 }
 
 #[cfg(test)]
@@ -684,6 +712,15 @@ mod tests {
         let expected = "S 0 0 200 300 1\nD 100 2 700 3\nS 200 2 400 0 2\nS 600 0 750 50 1\n\
                         S 1350 1 500 100 1\nS 1850 1 250 150 1\nE 2100 5 1\n";
         assert_eq!(listed(&TABLE, &events), expected);
+    }
+
+    #[test]
+    fn figures_of_the_worked_example() {
+        let expected = "0 500 800 1610000 3221 0 1 2825\n1 300 800 1410000 4701 0 0 1325\n\
+                        2 400 600 1440000 3601 0 0 2134\n";
+        let unsorted = file(&TABLE, &[(1, 0, 1), (0, 0, 1)]);
+        assert_eq!(figures_text(&unsorted, &[3220, 3221, 10_000]), expected);
+        assert_eq!(figures_text(&unsorted[1..], &[1]), "R 9 0\n");
     }
 
     #[test]

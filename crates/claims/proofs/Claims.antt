@@ -55,13 +55,15 @@ use Rattle.scheduler.proofs.flows.setup_of.Met as setup-of-met
 use Rattle.scheduler.proofs.flows.setup_first.Statement as setup-first
 use Rattle.scheduler.proofs.flows.setup_first.Met as setup-first-met
 use Rattle.runfile.specs.declared.turns.Tally.{Tally}
-use Rattle.runfile.specs.File.{eventCount, eventsIn, fileAnswer, readReply, runAnswer}
+use Rattle.runfile.specs.File.{eventCount, eventsIn, fileAnswer, readReply, flowsReply, runAnswer}
 use Rattle.runfile.specs.Run.{Act, due, outcomeOf, Timed, bookedIn, lineAfter, callIn, callsIn, tableIn, runCalls}
 use Rattle.runfile.specs.Listing.{tally, tallyAfter, endLine, linesOf, ends, ticksOf, lastOf, acceptedTo, sentTo, runListing, filled}
 use Rattle.runfile.proofs.Claims as run-claims
 use Rattle.runfile.proofs.Counts.{act-is-call}
 use Rattle.runfile.proofs.reader.read.Statement as read-says
 use Rattle.runfile.proofs.reader.read.Met as read-met
+use Rattle.runfile.proofs.reader.read_flows.Statement as read-flows-says
+use Rattle.runfile.proofs.reader.read_flows.Met as read-flows-met
 use Rattle.runfile.proofs.run.Statement as run-says
 use Rattle.runfile.proofs.run.Met as run-met
 use Rattle.text.specs.Text.{listingText}
@@ -69,14 +71,22 @@ use Rattle.text.proofs.listing_text.Statement as listing-text-says
 use Rattle.text.proofs.listing_text.Met as listing-text-met
 use Rattle.text.proofs.refusal_text.Statement as refusal-text-says
 use Rattle.text.proofs.refusal_text.Met as refusal-text-met
+use Rattle.text.proofs.row_text.Statement as row-text-says
+use Rattle.text.proofs.row_text.Met as row-text-met
+use Rattle.text.proofs.word_of.Statement as word-of-says
+use Rattle.text.proofs.word_of.Met as word-of-met
 use Rattle.figures.specs.declared.Figure.{Figure}
-use Rattle.figures.specs.Answers.{figurePaper, owedAnswer, waitAnswer}
+use Rattle.figures.specs.Answers.{figurePaper, owedAnswer, waitAnswer, lagAnswer}
 use Rattle.figures.proofs.Claims as figure-claims
 use Rattle.figures.proofs.Vectors.{Every, rows, p1-to-p12}
 use Rattle.figures.proofs.owed.Statement as owed-says
 use Rattle.figures.proofs.owed.Met as owed-met
 use Rattle.figures.proofs.wait.Statement as wait-says
 use Rattle.figures.proofs.wait.Met as wait-met
+use Rattle.figures.proofs.lag.Statement as lag-says
+use Rattle.figures.proofs.lag.Met as lag-met
+use Rattle.figures.proofs.row.Statement as row-says
+use Rattle.figures.proofs.row.Met as row-met
 use Rattle.claims.proofs.Shown.{shown}
 
 -- ---- DEMANDS 1 AND 2, the calls: each takes any numbers and any state, ends, and answers as its definition says.
@@ -108,9 +118,18 @@ owed-meets = owed-met.met
 pub wait-meets : {M : Type 1} → wait-says.statement M
 wait-meets = wait-met.met
 
+pub lag-meets : {M : Type 1} → lag-says.statement M
+lag-meets = lag-met.met
+
+pub row-meets : {M : Type 1} → row-says.statement M
+row-meets = row-met.met
+
 -- any bytes at all, and any lent list
 pub read-meets : {M : Type 1} → read-says.statement M
 read-meets = read-met.met
+
+pub read-flows-meets : {M : Type 1} → read-flows-says.statement M
+read-flows-meets = read-flows-met.met
 
 pub run-meets : {M : Type 1} → run-says.statement M
 run-meets = run-met.met
@@ -120,6 +139,12 @@ listing-text-meets = listing-text-met.met
 
 pub refusal-text-meets : {M : Type 1} → refusal-text-says.statement M
 refusal-text-meets = refusal-text-met.met
+
+pub row-text-meets : {M : Type 1} → row-text-says.statement M
+row-text-meets = row-text-met.met
+
+pub word-of-meets : {M : Type 1} → word-of-says.statement M
+word-of-meets = word-of-met.met
 
 -- ---- DEMAND 1, soundness, as a test and as facts
 -- every State that the code can hold has its arrays' lengths ..
@@ -190,7 +215,7 @@ one-arrival s f length r t p q = let e = p ∙ sym q in λ i. record { answer = 
 -- of `setup`, `setup_of` and `setup_first`
 pub one-setup : (xs : List FlowRecord) (r t : Made) →
     reply (verdictPaper (r .answer)) (r .state) ≡ setupReply xs → reply (verdictPaper (t .answer)) (t .state) ≡ setupReply xs → r ≡ t
-one-setup xs r t p q = let e = p ∙ sym q in λ i. record { answer = papers.verdict-one (r .answer) (t .answer) (ap (λ (z : Reply). z .answer) e) i; state = e i .state }
+one-setup xs = papers.one-made (setupReply xs)
 
 pub one-pick-line : (T : Table) (l : Line) (r t : PickedLine) →
     outcome (pickPaper (r .answer)) (lineIn (r .line)) ≡ pickOf T l → outcome (pickPaper (t .answer)) (lineIn (t .line)) ≡ pickOf T l → r ≡ t
@@ -223,6 +248,9 @@ one-owed = figure-claims.one-owed
 
 pub one-wait : (s : State) (flow : ℕ) (r t : Figure) → figurePaper r ≡ waitAnswer s flow → figurePaper t ≡ waitAnswer s flow → r ≡ t
 one-wait = figure-claims.one-wait
+
+pub one-lag : (s : State) (flow : ℕ) (r t : Figure) → figurePaper r ≡ lagAnswer s flow → figurePaper t ≡ lagAnswer s flow → r ≡ t
+one-lag = figure-claims.one-lag
 
 -- ---- DEMAND 3, the floor: `Floor` is the statement, in crates/drr/specs/Floor.antt
 pub the-floor : Floor
@@ -257,6 +285,10 @@ document-table = p1-to-p12
 pub one-read : (b : List ℕ) (r t : Made) →
     reply (verdictPaper (r .answer)) (r .state) ≡ readReply b → reply (verdictPaper (t .answer)) (t .state) ≡ readReply b → r ≡ t
 one-read = run-claims.one-read
+
+pub one-flows : (b : List ℕ) (r t : Made) →
+    reply (verdictPaper (r .answer)) (r .state) ≡ flowsReply b → reply (verdictPaper (t .answer)) (t .state) ≡ flowsReply b → r ≡ t
+one-flows = run-claims.one-flows
 
 pub one-run : (b out : List ℕ) (r t : Verdict) (o p : List ℕ) →
     (verdictPaper r ≡ runAnswer b (length out)) × (o ≡ filled b out) → (verdictPaper t ≡ runAnswer b (length out)) × (p ≡ filled b out) → (r ≡ t) × (o ≡ p)

@@ -12,7 +12,8 @@ use Rattle.drr.specs.declared.ArrivalAnswer.{ArrivalAnswer}
 use Rattle.drr.specs.declared.ArrivalAnswer.the-variants as arrivals
 use Rattle.drr.specs.declared.Verdict.{Verdict}
 use Rattle.drr.specs.declared.Verdict.the-variants as verdicts
-use Rattle.drr.specs.Answers.{numberOf, Answer, fine, refusedAt, pickPaper, arrivalPaper, verdictPaper}
+use Rattle.drr.specs.declared.Made.{Made}
+use Rattle.drr.specs.Answers.{numberOf, Answer, fine, refusedAt, pickPaper, arrivalPaper, verdictPaper, Reply, reply}
 
 pub refusalOf : ℕ → Refusal
 refusalOf k =
@@ -104,3 +105,7 @@ arrival-one = one-value arrivalPaper arrivalFrom arrival-back
 
 pub verdict-one : (a b : Verdict) → verdictPaper a ≡ verdictPaper b → a ≡ b
 verdict-one = one-value verdictPaper verdictFrom verdict-back
+
+-- no second answer, place or state beside an answer is the same reply
+pub one-made : (w : Reply) (r t : Made) → reply (verdictPaper (r .answer)) (r .state) ≡ w → reply (verdictPaper (t .answer)) (t .state) ≡ w → r ≡ t
+one-made w r t p q = let e = p ∙ sym q in λ i. record { answer = verdict-one (r .answer) (t .answer) (ap (λ (z : Reply). z .answer) e) i; state = e i .state }

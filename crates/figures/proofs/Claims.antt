@@ -10,7 +10,7 @@ use Rattle.drr.specs.Answers.{Answer}
 use Rattle.drr.proofs.Papers.{refusalOf, named, one-value}
 use Rattle.figures.specs.declared.Figure.{Figure}
 use Rattle.figures.specs.declared.Figure.the-variants.{Value, Refused}
-use Rattle.figures.specs.Answers.{figurePaper, owedAnswer, waitAnswer}
+use Rattle.figures.specs.Answers.{figurePaper, owedAnswer, waitAnswer, lagAnswer}
 
 figureFrom : Answer → Figure
 figureFrom a = cond (eqb (a .refusal) 0) (Value (getD (a .numbers) 0 0)) (Refused (refusalOf (a .refusal)))
@@ -30,3 +30,6 @@ one-owed s flow S r t p q = figure-apart r t (p ∙ sym q)
 
 pub one-wait : (s : State) (flow : ℕ) (r t : Figure) → figurePaper r ≡ waitAnswer s flow → figurePaper t ≡ waitAnswer s flow → r ≡ t
 one-wait s flow r t p q = figure-apart r t (p ∙ sym q)
+
+pub one-lag : (s : State) (flow : ℕ) (r t : Figure) → figurePaper r ≡ lagAnswer s flow → figurePaper t ≡ lagAnswer s flow → r ≡ t
+one-lag s flow r t p q = figure-apart r t (p ∙ sym q)

@@ -1,4 +1,5 @@
 -- Laws that several functions' proofs cite, the claims, and document 01's vectors.
 pub mod Laws
+pub mod Rows
 pub mod Claims
 pub mod Vectors

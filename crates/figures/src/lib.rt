@@ -8,11 +8,13 @@ use drr::Refusal;
 use drr::State;
 ghost use mathlib.Core.Path.{_≡_};
 ghost use Prim.Native.Nat.{_+_, _*_, _-_, _/_, _≤_, _<_};
-ghost use lib.ListN.{getD};
+ghost use mathlib.Core.List.{_++_};
+ghost use lib.ListN.{length, getD, drop};
+ghost use lib.Seq.{paste};
 ghost use Rattle.drr.specs.State.{tableOf};
 ghost use Rattle.drr.specs.Facts.{Ranged};
 ghost use Rattle.drr.specs.Figures.{total, lag as lagOf, owed as owedOf, wait as waitOf};
-ghost use Rattle.figures.specs.Answers.{figurePaper, owedAnswer, waitAnswer};
+ghost use Rattle.figures.specs.Answers.{figurePaper, owedAnswer, waitAnswer, lagAnswer, valueOf, owedEach, rowWithin};
 ghost use Rattle.figures.specs.Needs.{Limited};
 
 pub enum Figure {
@@ -139,4 +141,80 @@ pub fn wait(s: State, flow: usize) -> Figure
     let maxima = table.maxima;
     let value = wait_in(n, &quanta, &maxima, flow);
     Figure::Value(value)
+}
+
+// C of the flow.
+pub fn lag(s: State, flow: usize) -> Figure
+    ensures { λ r. ⌜ figurePaper r ≡ lagAnswer s flow ⌝ }
+{
+    let table = s.table;
+    let line = s.line;
+    if !scheduler::sound_line(table, line) {
+        return Figure::Refused(Refusal::NotSound);
+    }
+    let n = table.n;
+    if n <= flow {
+        return Figure::Refused(Refusal::UnknownFlow);
+    }
+    let quanta = table.quanta;
+    let maxima = table.maxima;
+    let value = lag_in(n, &quanta, &maxima, flow);
+    Figure::Value(value)
+}
+
+// The value of a figure, 0 beside a refusal.
+fn value_of(f: Figure) -> u64
+    ensures { λ r. ⌜ r ≡ valueOf (figurePaper f) ⌝ }
+{
+    match f {
+        Figure::Value(value) => value,
+        Figure::Refused(_) => 0,
+    }
+}
+
+// A cell of the table, 0 past its end.
+fn cell_at(cells: [u32; 16], flow: usize) -> u64
+    ensures { λ r. ⌜ r ≡ getD cells flow 0 ⌝ }
+{
+    if flow < 16 { wide(cells[flow]) } else { 0 }
+}
+
+// What the flow is owed of each number of bytes, from the sixth number of the list on.
+fn put_owed(s: State, flow: usize, sizes: &[u32], out: &mut [u64])
+    requires { ⌜ 5 + length (now sizes) ≤ length (now out) ⌝ }
+    ensures { λ _. ⌜ now (out .exit) ≡ paste (now (out .entry)) 5 (owedEach s flow (now (sizes .entry))) (length (now (sizes .entry))) ⌝ }
+{
+    let mut i: usize = 0;
+    while i < sizes.len() {
+        let figure = owed(s, flow, sizes[i]);
+        out[5 + i] = value_of(figure);
+        i += 1;
+    }
+}
+
+// The flow's figures at the start of a lent list: flow, quantum, maximum, C, wait, and owed of each number
+// of bytes. Answers how many numbers that is; nothing, and 0, where the list is too short.
+pub fn row(s: State, flow: usize, sizes: &[u32], out: &mut [u64]) -> usize
+    ensures { λ r. ⌜ r ≡ length (rowWithin s flow (now (sizes .entry)) (length (now (out .entry)))) ⌝ }
+    ensures { λ r. ⌜ now (out .exit) ≡ rowWithin s flow (now (sizes .entry)) (length (now (out .entry))) ++ drop (length (rowWithin s flow (now (sizes .entry)) (length (now (out .entry))))) (now (out .entry)) ⌝ }
+{
+    let count = sizes.len();
+    if out.len() < 5 {
+        return 0;
+    }
+    if out.len() - 5 < count {
+        return 0;
+    }
+    let table = s.table;
+    let quanta = table.quanta;
+    let maxima = table.maxima;
+    let behind = lag(s, flow);
+    let first = wait(s, flow);
+    out[0] = flow as u64;
+    out[1] = cell_at(quanta, flow);
+    out[2] = cell_at(maxima, flow);
+    out[3] = value_of(behind);
+    out[4] = value_of(first);
+    put_owed(s, flow, sizes, out);
+    5 + count
 }

@@ -9,15 +9,15 @@ use Rattle.drr.specs.declared.Table.{Table}
 use Rattle.drr.specs.declared.Verdict.{Verdict}
 use Rattle.drr.specs.State.{Line, freshLine, freshState}
 use Rattle.drr.specs.Facts.{Sound, Ranged}
-use Rattle.drr.specs.Answers.{verdictPaper, Reply, reply}
+use Rattle.drr.specs.Answers.{verdictPaper, reply}
 use Rattle.drr.specs.Figures.{owed}
 use Rattle.drr.specs.Floor.{afterCalls, bytesSent, flowSent, WaitsAtPicks}
-use Rattle.drr.proofs.Papers.{verdict-one}
+use Rattle.drr.proofs.Papers.{verdict-one, one-made}
 use Rattle.drr.proofs.Tables.{fresh-sound, made-ranged}
 use Rattle.drr.proofs.Calls.{fresh-state-sound}
 use Rattle.drr.proofs.Demand3.{demand-3}
 use Rattle.runfile.specs.declared.turns.Tally.{Tally}
-use Rattle.runfile.specs.File.{eventCount, eventOffset, flowsIn, eventsIn, fileAnswer, readReply, runAnswer}
+use Rattle.runfile.specs.File.{eventCount, eventOffset, flowsIn, eventsIn, fileAnswer, readReply, flowsReply, runAnswer}
 use Rattle.runfile.specs.Run.{Act, due, Timed, bookedIn, lineAfter, callsIn, tableIn, runCalls}
 use Rattle.runfile.specs.Listing.{tally, tallyAfter, endLine, linesOf, ends, ticksOf, lastOf, acceptedTo, sentTo, runListing, filled}
 use Rattle.runfile.proofs.Files.{file-setup, file-sorted}
@@ -28,7 +28,12 @@ use Rattle.runfile.proofs.Counts.{each-one, all-in-turn, listing-is, li
 -- no second answer, place or state meets the contract of `reader::read`
 pub one-read : (b : List ℕ) (r t : Made) →
     reply (verdictPaper (r .answer)) (r .state) ≡ readReply b → reply (verdictPaper (t .answer)) (t .state) ≡ readReply b → r ≡ t
-one-read b r t p q = let e = p ∙ sym q in λ i. record { answer = verdict-one (r .answer) (t .answer) (ap (λ (z : Reply). z .answer) e) i; state = e i .state }
+one-read b = one-made (readReply b)
+
+-- .. and of `reader::read_flows`
+pub one-flows : (b : List ℕ) (r t : Made) →
+    reply (verdictPaper (r .answer)) (r .state) ≡ flowsReply b → reply (verdictPaper (t .answer)) (t .state) ≡ flowsReply b → r ≡ t
+one-flows b = one-made (flowsReply b)
 
 -- no second answer or content of the lent list meets the contract of `run`
 pub one-run : (b out : List ℕ) (r t : Verdict) (o p : List ℕ) →

@@ -1,6 +1,6 @@
 -- The run file: what a header without a fault says, the records that the reader copies, and the answer that it gives as a whole.
 use mathlib.Core.Path.{_≡_, refl, sym, ap, _∙_}
-use mathlib.Core.Bool.{Bool, true, false, not, cond, _&&_, _||_, true≢false}
+use mathlib.Core.Bool.{Bool, true, false, not, cond, _&&_, _||_}
 use mathlib.Core.List.{List, [], _∷_}
 use Prim.Native.Nat.{ℕ, zero, suc, _+_, _*_, _-_, _%_, _≤_, _<_}
 use native.Mathlib.Omega.{arith}
@@ -13,9 +13,9 @@ use Rattle.drr.specs.declared.Refusal.{Refusal}
 use Rattle.drr.specs.State.{emptyTable}
 use Rattle.drr.specs.Answers.{numberOf, Answer, fine, refusedAt, Reply, reply}
 use Rattle.drr.specs.Setup.{flowsAnswer, setupAnswer, setupReply, recordsFrom}
-use Rattle.drr.proofs.Bools.{and-left, and-right, or-right, by-test}
+use Rattle.drr.proofs.Bools.{or-left, and-left, and-right, or-right, by-test}
 use Rattle.drr.proofs.Papers.{number-some}
-use Rattle.runfile.specs.File.{le4, flowCount, eventCount, flowOffset, eventOffset, statedLength, reserved, flowsFrom, Event, eventsFrom, flowsIn, eventsIn, tablesb, headerAnswer, ticksAnswer, Sorted, firstRefused, fileAnswer, readReply, Laid}
+use Rattle.runfile.specs.File.{le4, flowCount, eventCount, flowOffset, eventOffset, statedLength, reserved, flowsFrom, Event, eventsFrom, flowsIn, eventsIn, tablesb, headerAnswer, ticksAnswer, Sorted, firstRefused, fileAnswer, readReply, flowsReply, Laid}
 
 -- ---- the header
 -- a test that refuses by a number other than 0 was not met where nothing is refused
@@ -24,10 +24,6 @@ peel true k x e = absurd (omega arith)
 peel false k x e = (refl, e)
 
 -- of a disjunction that fails
-pub or-left : (a b : Bool) → a || b ≡ false → a ≡ false
-or-left true b e = absurd (true≢false e)
-or-left false b e = refl
-
 -- the six tests, each not met
 record Passed (b : List ℕ) : Type 0 where
   size : (ltb (length b) 20 || ltb 12288 (length b)) ≡ false
@@ -185,6 +181,15 @@ file-refused b why place e = rw (← e, number-some why)
 pub header-refused : (b : List ℕ) (why : Refusal) (place : ℕ) → refusedAt (numberOf why) place ≡ headerAnswer b → reply (refusedAt (numberOf why) place) emptyTable ≡ readReply b
 unfolding fileAnswer
 header-refused b why place e = file-refused b why place (rw (← e, number-some why))
+
+-- a reader that leaves the events alone: the header's refusal, or setup's answer and state
+pub flows-none : (b : List ℕ) (why : Refusal) (place : ℕ) → refusedAt (numberOf why) place ≡ headerAnswer b → reply (refusedAt (numberOf why) place) emptyTable ≡ flowsReply b
+unfolding flowsReply
+flows-none b why place e = rw (← e, number-some why)
+
+pub flows-some : (b : List ℕ) → headerAnswer b ≡ fine → setupReply (flowsIn b) ≡ flowsReply b
+unfolding flowsReply
+flows-some b ok = rw ok
 
 -- it has setup's answer and state where its answer is setup's
 as-setup : (b : List ℕ) → fileAnswer b ≡ setupAnswer (flowsIn b) → setupReply (flowsIn b) ≡ readReply b

@@ -7,7 +7,7 @@ use lib.ListN.{length, getD, drop}
 use Rattle.drr.specs.declared.FlowRecord.{FlowRecord}
 use Rattle.drr.specs.State.{freshState, emptyTable}
 use Rattle.drr.specs.Answers.{Answer, fine, refusedAt, Reply, reply}
-use Rattle.drr.specs.Setup.{tableFor, flowsAnswer}
+use Rattle.drr.specs.Setup.{tableFor, flowsAnswer, setupReply}
 
 -- "Little-endian": two and four bytes from i on
 abbrev pub le2 : List ℕ → ℕ → ℕ
@@ -105,6 +105,10 @@ runAnswer b room = firstRefused (fileAnswer b) (cond (ltb room (6 * (eventCount 
 unfoldable pub readReply : List ℕ → Reply
 readReply b =
     cond (eqb (fileAnswer b .refusal) 0) (reply (fileAnswer b) (freshState (tableFor (flowsIn b)))) (reply (fileAnswer b) emptyTable)
+
+-- the answer of a reader that leaves the events alone: "9, 10, 5, 11, 12, 6 and 7 by flow", and the fresh state
+unfoldable pub flowsReply : List ℕ → Reply
+flowsReply b = cond (eqb (headerAnswer b .refusal) 0) (setupReply (flowsIn b)) (reply (headerAnswer b) emptyTable)
 
 -- what a header without a fault says
 pub record Laid (b : List ℕ) : Type 0 where

@@ -7,7 +7,7 @@ ghost use Prim.Native.Nat.{ℕ, _+_, _*_, _≤_, _<_};
 ghost use lib.ListN.{length};
 ghost use Rattle.drr.specs.Answers.{verdictPaper, reply, fine};
 ghost use Rattle.drr.specs.Setup.{setupReply};
-ghost use Rattle.runfile.specs.File.{le2 as le2Of, le4 as le4Of, tablesb, headerAnswer, flowsFrom, eventsFrom, ticksAnswer, readReply, Laid};
+ghost use Rattle.runfile.specs.File.{le2 as le2Of, le4 as le4Of, tablesb, headerAnswer, flowsFrom, eventsFrom, flowsIn, ticksAnswer, readReply, flowsReply, Laid};
 
 fn wide(x: u8) -> usize
     ensures { λ r. ⌜ (r ≡ x) × (r < 256) ⌝ }
@@ -107,17 +107,25 @@ pub fn ticks(t: &[u8], m: usize) -> Verdict
     Verdict::Fine
 }
 
+// 6 and 7 of a file whose header has no fault, and the fresh state of its flows.
+fn flows_of(file: &[u8]) -> Made
+    requires { ⌜ Laid (now file) ⌝ }
+    ensures { λ r. ⌜ reply (verdictPaper (r .answer)) (r .state) ≡ setupReply (flowsIn (now (file .entry))) ⌝ }
+{
+    let flows = le2(file, 0);
+    let flows_at = le4(file, 4);
+    setup_table(&file[flows_at..], flows)
+}
+
 // 6, 7 and 13 of a file whose header has no fault, and the fresh state of its flows.
 fn read_tables(file: &[u8]) -> Made
     requires { ⌜ Laid (now file) ⌝ }
     requires { ⌜ headerAnswer (now file) ≡ fine ⌝ }
     ensures { λ r. ⌜ reply (verdictPaper (r .answer)) (r .state) ≡ readReply (now (file .entry)) ⌝ }
 {
-    let flows = le2(file, 0);
     let events = le2(file, 2);
-    let flows_at = le4(file, 4);
     let events_at = le4(file, 8);
-    let made = setup_table(&file[flows_at..], flows);
+    let made = flows_of(file);
     let answer = made.answer;
     if let Verdict::Refused(_, _) = answer {
         return made;
@@ -138,4 +146,15 @@ pub fn read(file: &[u8]) -> Made
         return scheduler::flows::refused(why, place);
     }
     read_tables(file)
+}
+
+// The same for a reader that leaves the events alone: every refusal but 13.
+pub fn read_flows(file: &[u8]) -> Made
+    ensures { λ r. ⌜ reply (verdictPaper (r .answer)) (r .state) ≡ flowsReply (now (file .entry)) ⌝ }
+{
+    let h = header(file);
+    if let Verdict::Refused(why, place) = h {
+        return scheduler::flows::refused(why, place);
+    }
+    flows_of(file)
 }

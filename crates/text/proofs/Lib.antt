@@ -1,2 +1,3 @@
 -- Laws that several functions' proofs cite.
 pub mod Texts
+pub mod Rows

@@ -9,6 +9,7 @@ use borrow.Author.Tests.{lt-ltb, le-ltb, eq-eqb, ne-eqb, eqb-true, eqb-false}
 use lib.ListN.{length, getD, set, take, drop, length-append, length-drop, take-append-drop}
 use lib.Dec.{eqb}
 use lib.Seq.{take-at, drop-at, drop-drop, length-take-le, take-set-le, drop-set-lt, getD-set-same, drop-cons, append-snoc, set-split}
+use Rattle.io.specs.Counts.{Counts}
 use Rattle.io.specs.Digits.{digits, glyph, Fewest}
 use Rattle.text.specs.Text.{further, places, decimal, fieldText, threeText, sendText, dropText, endText, lineText, listingText, listingWithin, refusalText, refusalWithin, placed, Put}
 
@@ -199,10 +200,14 @@ put-none m b at = ((sym (placed-none b at), sym (add-zero at)), omega arith)
 abbrev pub Filled : List ℕ → List ℕ → List ℕ → ℕ → Type 0
 Filled t b b' r = (r ≡ length t) × (b' ≡ t ++ drop (length t) b)
 
-filled-put : (t b b' : List ℕ) (r : ℕ) → Put b 0 t b' r → Filled t b b' r
+pub filled-put : (t b b' : List ℕ) (r : ℕ) → Put b 0 t b' r → Filled t b b' r
 filled-put t b b' r p =
     let e : 0 + length t ≡ length t = omega arith in
     (p .1 ∙ e, p .0 ∙ ap (λ (i : ℕ). t ++ drop i b) e)
+
+-- the numbers of W at the start of a list are no more than the list's: `&list[..r]` can be lent
+pub counted : (W b x : List ℕ) (r : ℕ) → r ≡ length W → x ≡ W ++ drop (length W) b → Counts r x
+counted W b x r e is = let most : r ≤ length x = omega (arith, ap length is, length-append W (drop (length W) b)) in (most, sym (length-take-le r x most))
 
 pub listing-none : (list b : List ℕ) → length b / 18 < length list → Filled (listingWithin list (length b)) b b 0
 unfolding listingWithin

@@ -1,11 +1,13 @@
 -- "The run file and its listing": the listing as text. A text is the list of its bytes; 32 is the space, 10 ends a line.
 use mathlib.Core.Path.{_≡_}
-use mathlib.Core.Bool.{cond}
+use mathlib.Core.Bool.{cond, _&&_}
 use mathlib.Core.List.{List, [], _∷_, _++_}
-use Prim.Native.Nat.{ℕ, zero, suc, _+_, _/_}
-use lib.Dec.{eqb, ltb}
+use Prim.Native.Nat.{ℕ, zero, suc, _+_, _-_, _*_, _/_}
+use lib.Dec.{eqb, ltb, leb}
 use lib.ListN.{length, take, drop}
 use Rattle.io.specs.Digits.{digits}
+use Rattle.text.specs.declared.Word.{Word}
+use Rattle.text.specs.declared.Word.the-variants.{Number, NoNumber}
 
 -- how many digits stand before the last one, where `rest` is the number without its last digit; at most as many as the first number says
 abbrev pub further : ℕ → ℕ → ℕ
@@ -73,3 +75,27 @@ placed b at v = take at b ++ v ++ drop (at + length v) b
 -- the text v is put at `at`: what the buffer is then, and where the text ends
 abbrev pub Put : List ℕ → ℕ → List ℕ → List ℕ → ℕ → Type 0
 Put b at v b' end = (b' ≡ placed b at v) × (end ≡ at + length v)
+
+-- ---- a row of numbers, as `drrfigures` prints it: fields parted by one space, a newline at the end
+abbrev pub fieldsText : List ℕ → List ℕ
+fieldsText [] = 10 ∷ []
+fieldsText (n ∷ ns) = fieldText n ++ fieldsText ns
+
+-- no text for no number
+abbrev pub rowText : List ℕ → List ℕ
+rowText [] = []
+rowText (n ∷ ns) = decimal n ++ fieldsText ns
+
+-- .. nothing, where it has fewer than 21 for each number, which is room for any row
+unfoldable pub rowWithin : List ℕ → ℕ → List ℕ
+rowWithin list room = cond (ltb (room / 21) (length list)) [] (rowText list)
+
+-- ---- a number as a word: decimal digits alone, at least one, and no more than 32 bits
+-- the digits from here on, where those before them gave n
+abbrev pub readOn : ℕ → List ℕ → Word
+readOn n [] = Number n
+readOn n (d ∷ ds) = cond (leb 48 d && leb d 57 && leb (10 * n + (d - 48)) 4294967295) (readOn (10 * n + (d - 48)) ds) NoNumber
+
+abbrev pub wordOf : List ℕ → Word
+wordOf [] = NoNumber
+wordOf (d ∷ ds) = readOn 0 (d ∷ ds)

@@ -1,10 +1,10 @@
 // A listing and a refusal as text, into a lent buffer of bytes.
 ghost use mathlib.Core.Path.{_≡_};
 ghost use mathlib.Core.List.{_++_, _∷_, []};
-ghost use Prim.Native.Nat.{_+_, _*_, _≤_};
+ghost use Prim.Native.Nat.{_+_, _-_, _*_, _≤_};
 ghost use lib.ListN.{length, drop};
 ghost use Rattle.io.specs.Digits.{digits};
-ghost use Rattle.text.specs.Text.{decimal, fieldText, threeText, sendText, dropText, endText, lineText, listingText, listingWithin, refusalWithin, placed, Put};
+ghost use Rattle.text.specs.Text.{decimal, fieldText, threeText, sendText, dropText, endText, lineText, listingText, listingWithin, refusalWithin, fieldsText, rowText, rowWithin, wordOf, placed, Put};
 ghost use Rattle.text.specs.Text.{places as Text·places};
 
 // How many digits a number has.
@@ -171,4 +171,84 @@ pub fn refusal_text(number: u64, place: u64, buf: &mut [u8]) -> usize
     let second = put_field(buf, first, number);
     let end = put_field(buf, second, place);
     put(buf, end, 10)
+}
+
+// The numbers of a row after its first, each with the space before it, and the newline.
+fn put_fields(list: &[u64], buf: &mut [u8], start: usize) -> usize
+    requires { ⌜ start + 21 * length (now list) ≤ length (now buf) + 20 ⌝ }
+    requires { ⌜ 1 ≤ length (now list) ⌝ }
+    ensures { λ r. ⌜ Put (now (buf .entry)) start (fieldsText (drop 1 (now (list .entry)))) (now (buf .exit)) r ⌝ }
+{
+    let mut at = start;
+    let mut i: usize = 1;
+    while i < list.len() {
+        at = put_field(buf, at, list[i]);
+        i += 1;
+    }
+    put(buf, at, 10)
+}
+
+// A row of at least one number.
+fn put_row(list: &[u64], buf: &mut [u8]) -> usize
+    requires { ⌜ 21 * length (now list) ≤ length (now buf) ⌝ }
+    requires { ⌜ 1 ≤ length (now list) ⌝ }
+    ensures { λ r. ⌜ Put (now (buf .entry)) 0 (rowText (now (list .entry))) (now (buf .exit)) r ⌝ }
+{
+    let at = put_number(buf, 0, list[0]);
+    put_fields(list, buf, at)
+}
+
+// The text of a row of numbers at the start of a lent buffer, and how many bytes it has; nothing, and 0,
+// where the buffer has fewer than 21 bytes for each number.
+pub fn row_text(list: &[u64], buf: &mut [u8]) -> usize
+    ensures { λ r. ⌜ r ≡ length (rowWithin (now (list .entry)) (length (now (buf .entry)))) ⌝ }
+    ensures { λ r. ⌜ now (buf .exit) ≡ rowWithin (now (list .entry)) (length (now (buf .entry))) ++ drop (length (rowWithin (now (list .entry)) (length (now (buf .entry))))) (now (buf .entry)) ⌝ }
+{
+    if buf.len() / 21 < list.len() {
+        return 0;
+    }
+    if list.len() == 0 {
+        return 0;
+    }
+    put_row(list, buf)
+}
+
+// What a word says: a number of 32 bits, or none.
+pub enum Word {
+    Number(u32),
+    NoNumber,
+}
+
+fn digit(byte: u8) -> u64
+    requires { ⌜ 48 ≤ byte ⌝ }
+    ensures { λ r. ⌜ (r ≡ byte - 48) × (r ≤ 255) ⌝ }
+{
+    (byte - 48) as u64
+}
+
+// The number that a word of decimal digits says.
+pub fn word_of(word: &[u8]) -> Word
+    ensures { λ r. ⌜ r ≡ wordOf (now (word .entry)) ⌝ }
+{
+    if word.len() == 0 {
+        return Word::NoNumber;
+    }
+    let mut n: u64 = 0;
+    let mut i: usize = 0;
+    while i < word.len() {
+        let byte = word[i];
+        if byte < 48 {
+            return Word::NoNumber;
+        }
+        if 57 < byte {
+            return Word::NoNumber;
+        }
+        let next = 10 * n + digit(byte);
+        if 4294967295 < next {
+            return Word::NoNumber;
+        }
+        n = next;
+        i += 1;
+    }
+    Word::Number(n as u32)
 }

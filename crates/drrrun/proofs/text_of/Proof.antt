@@ -1,18 +1,9 @@
-use mathlib.Core.Path.{_≡_, sym, ap}
-use mathlib.Core.List.{List, _++_}
-use Prim.Native.Nat.{ℕ, _≤_}
-use native.Mathlib.Omega.{arith}
 use borrow.Author.Needs.{needs}
-use lib.ListN.{length, drop, length-append}
-use lib.Seq.{length-take-le}
-use Rattle.io.specs.Counts.{Counts}
+use lib.ListN.{length}
 use Rattle.text.specs.Text.{listingWithin, refusalWithin}
+use Rattle.text.proofs.Texts.{counted}
 use Rattle.drrrun.proofs.text_of.Statement.{statement}
 use Rattle.drrrun.proofs.text_of.Tie as tie
-
--- the bytes of a text at the start of a buffer are no more than the buffer's
-counted : (W b x : List ℕ) (r : ℕ) → r ≡ length W → x ≡ W ++ drop (length W) b → Counts r x
-counted W b x r e is = let most : r ≤ length x = omega (arith, ap length is, length-append W (drop (length W) b)) in (most, sym (length-take-le r x most))
 
 returns : tie.Need-returns
 returns c =

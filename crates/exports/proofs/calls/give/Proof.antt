@@ -1,4 +1,3 @@
-use borrow.Author.Needs.{needs}
 use Rattle.exports.proofs.calls.give.Statement.{statement}
 use Rattle.exports.proofs.calls.give.Tie as tie
 

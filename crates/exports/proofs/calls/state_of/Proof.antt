@@ -1,4 +1,3 @@
-use borrow.Author.Needs.{needs}
 use Rattle.exports.proofs.calls.state_of.Statement.{statement}
 use Rattle.exports.proofs.calls.state_of.Tie as tie
 

@@ -1,5 +1,4 @@
-use mathlib.Core.Path.{_≡_, ap, _∙_}
-use borrow.Author.Needs.{needs}
+use mathlib.Core.Path.{ap, _∙_}
 use Rattle.drr.specs.declared.State.{State}
 use Rattle.drr.specs.State.{lineIn}
 use Rattle.drr.specs.Answers.{Reply}

@@ -1,7 +1,6 @@
 use mathlib.Core.Path.{ap, _∙_}
 use borrow.Author.Needs.{needs}
 use Rattle.drr.specs.declared.State.{State}
-use Rattle.drr.specs.Answers.{Answer}
 use Rattle.figures.specs.Answers.{waitAnswer}
 use Rattle.exports.specs.Told.{told}
 use Rattle.exports.proofs.calls.wikulambag_wait.Statement.{statement}

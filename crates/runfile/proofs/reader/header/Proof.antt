@@ -8,9 +8,8 @@ use lib.Dec.{ltb, eqb}
 use borrow.Author.Needs.{needs}
 use borrow.Author.Tests.{ltb-false, lt-ltb, le-ltb, eq-eqb, ne-eqb}
 use Rattle.drr.specs.Answers.{fine, refusedAt}
-use Rattle.drr.proofs.Bools.{refuted, passed}
+use Rattle.drr.proofs.Bools.{refuted, passed, or-left}
 use Rattle.runfile.specs.File.{headerAnswer, statedLength, reserved, flowCount, eventCount, flowOffset, eventOffset, tablesb}
-use Rattle.runfile.proofs.Files.{or-left}
 use Rattle.runfile.proofs.reader.header.Statement.{statement}
 use Rattle.runfile.proofs.reader.header.Tie as tie
 

@@ -4,31 +4,28 @@ use Prim.Native.Nat.{ℕ}
 use borrow.Author.Needs.{needs}
 use Rattle.drr.specs.Answers.{fine, verdictPaper, Reply, reply}
 use Rattle.drr.specs.Setup.{setupReply}
-use Rattle.runfile.specs.File.{flowOffset, eventOffset, flowsFrom, eventsFrom, flowsIn, eventsIn, headerAnswer, ticksAnswer}
+use Rattle.runfile.specs.File.{eventOffset, eventsFrom, flowsIn, eventsIn, headerAnswer, ticksAnswer}
 use Rattle.runfile.proofs.Files.{part-is, flows-refused, ticks-refused, all-fine}
 use Rattle.runfile.proofs.reader.read_tables.Statement.{statement}
 use Rattle.runfile.proofs.reader.read_tables.Tie as tie
 
 -- the file, whose header has no fault
-abbrev file : tie.After-setup-table → List ℕ
-file x = x .before .before .before .before .before .before .before .args .file .now
+abbrev file : tie.After-flows-of → List ℕ
+file x = x .before .before .before .before .args .file .now
 
-header : (x : tie.After-setup-table) → headerAnswer (file x) ≡ fine
-header x = x .before .before .before .before .before .before .before .pre .1
+header : (x : tie.After-flows-of) → headerAnswer (file x) ≡ fine
+header x = x .before .before .before .before .pre .1
 
--- what is handed on is the part of the file at each table's offset
-setup : (x : tie.After-setup-table) → reply (verdictPaper (x .setup-table .result .answer)) (x .setup-table .result .state) ≡ setupReply (flowsIn (file x))
-setup x =
-    let l = x .before .before in
-    let b = file x in
-    x .setup-table .ensures ∙ (λ j. setupReply (flowsFrom (part-is b (l .before .le4 .result) (flowOffset b) (l .before .le4 .ensures .0) j) 0 (l .before .before .before .le2 .ensures .0 j)))
+setup : (x : tie.After-flows-of) → reply (verdictPaper (x .flows-of .result .answer)) (x .flows-of .result .state) ≡ setupReply (flowsIn (file x))
+setup x = x .flows-of .ensures
 
+-- what is handed on is the part of the file at the table's offset
 order : (y : tie.After-ticks) → verdictPaper (y .ticks .result) ≡ ticksAnswer 0 0 (eventsIn (file (y .before .before .before .before)))
 order y =
     let x = y .before .before .before .before in
-    let l = x .before .before in
+    let l = x .before in
     let b = file x in
-    y .ticks .ensures ∙ (λ j. ticksAnswer 0 0 (eventsFrom (part-is b (l .le42 .result) (eventOffset b) (l .le42 .ensures .0) j) 0 (l .before .before .le22 .ensures .0 j)))
+    y .ticks .ensures ∙ (λ j. ticksAnswer 0 0 (eventsFrom (part-is b (l .le4 .result) (eventOffset b) (l .le4 .ensures .0) j) 0 (l .before .le2 .ensures .0 j)))
 
 -- setup accepted the flows
 accepted : (m : tie.After-enum-told2) → fine ≡ setupReply (flowsIn (file (m .before .before))) .answer
@@ -60,11 +57,6 @@ read-tables-spec =
     (tie.spec
     (λ c κs. search needs)
     (λ c κs. search needs)
-    (λ c κs. search needs)
-    (λ c κs. search needs)
-    (λ c. search needs)
-    (λ c. search needs)
-    (λ c. search needs)
     (λ c κs. search needs)
     (λ c. search needs)
     returns

@@ -1,0 +1,32 @@
+use lib.ListN.{length, replicate}
+use borrow.Author.Needs.{needs}
+use Rattle.io.specs.Counts.{Counts}
+use Rattle.figures.specs.Answers as figures
+use Rattle.text.specs.Text as texts
+use Rattle.text.proofs.Texts.{counted}
+use Rattle.drrfigures.proofs.text_of.Statement.{statement}
+use Rattle.drrfigures.proofs.text_of.Tie as tie
+
+listed : (r : tie.After-row) → Counts (r .row .result) (r .row .last .1 .1 .1 .0)
+listed r =
+    let a = r .before .before .before .before .args in
+    counted (figures.rowWithin (a .s) (a .flow) (a .sizes .now) 21) (replicate 21 0) _ _ (r .row .ensures .0) (r .row .ensures .1)
+
+returns : tie.Need-returns
+returns c =
+    let t = c .before .before in
+    let r = t .before .before .before .before in
+    let b = r .before .before .before .before .args .buf .now in
+    counted (texts.rowWithin _ (length b)) b _ _ (t .row-text .ensures .0) (t .row-text .ensures .1)
+
+pub text-of-spec : {M : Type 1} → statement M
+text-of-spec =
+    tie.close
+    (tie.spec
+    (λ c. search needs)
+    (λ c κs. _)
+    (λ c. listed (c .before) .0)
+    (λ c. listed (c .before .before) .1)
+    (λ c κs. _)
+    (λ c. search needs)
+    returns)
