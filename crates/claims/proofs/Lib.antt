@@ -1,3 +1,4 @@
 pub mod Shown
 pub mod Claims
 pub mod Worked
+pub mod Exports
