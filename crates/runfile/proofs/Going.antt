@@ -1,6 +1,6 @@
 -- The run's loop: what holds before each turn, and what each kind of turn leaves.
 use mathlib.Core.Path.{_≡_, refl, sym, ap, subst, _∙_}
-use mathlib.Core.Bool.{Bool, true, false, cond, _&&_}
+use mathlib.Core.Bool.{Bool, true, false, cond, _&&_, true≢false}
 use mathlib.Core.List.{List, [], _∷_, _++_, append-assoc}
 use mathlib.Core.Logic.{_⊎_, ⊎-elim}
 use Prim.Native.Nat.{ℕ, zero, suc, _+_, _*_, _-_, _≤_, _<_}
@@ -8,7 +8,7 @@ use native.Mathlib.Nat.{sub-zero}
 use native.Mathlib.Omega.{arith}
 use types.Run.{OneOf, miss}
 use denote.Enum.Declared.{tagOf}
-use borrow.Author.Tests.{le-leb, lt-leb, leb-false, lt-ltb, le-ltb, eq-eqb}
+use borrow.Author.Tests.{le-leb, lt-leb, leb-true, leb-false, lt-ltb, le-ltb, ltb-true, eq-eqb}
 use lib.Dec.{leb, ltb, eqb}
 use lib.ListN.{length, getD, take, drop}
 use lib.Seq.{drop-drop}
@@ -31,6 +31,7 @@ use Rattle.runfile.specs.declared.turns.Tally.{Tally}
 use Rattle.runfile.specs.File.{Event, eventAt, eventsFrom}
 use Rattle.runfile.specs.Run.{Act, comes, asks, due, still, onward, calls, enough}
 use Rattle.runfile.specs.Listing.{tally, dropLine, startLine, afterEvent, afterPick, written, listing, eventsListing}
+use Rattle.runfile.specs.Needs.{dueb}
 use Rattle.runfile.proofs.Lines.{written-length, written-front, written-back}
 
 -- ---- an arrival: accepted, one more waits; refused, the line is as it was
@@ -91,6 +92,17 @@ late-not t m now at a b = rw (lt-ltb at m a, le-leb (eventAt t at .tick) now b)
 -- the next event, if there is one, is not due
 abbrev pub Later : List ℕ → ℕ → ℕ → ℕ → Type 0
 Later t m now at = at < m → now < eventAt t at .tick
+
+-- the test before a pick
+pub is-due : (t : List ℕ) (m now at : ℕ) {r : Bool} → r ≡ dueb t m at now → r ≡ true → (at < m) × (eventAt t at .tick ≤ now)
+is-due t m now at e passed = by (ltb at m) refl (sym e ∙ passed)
+  where
+    by : (b : Bool) → ltb at m ≡ b → cond b (leb (eventAt t at .tick) now) false ≡ true → (at < m) × (eventAt t at .tick ≤ now)
+    by true p q = (ltb-true at m p, leb-true (eventAt t at .tick) now q)
+    by false p q = absurd (true≢false (sym q))
+
+pub not-due : (t : List ℕ) (m now at : ℕ) {r : Bool} → r ≡ dueb t m at now → r ≡ false → Later t m now at
+not-due t m now at e failed more = leb-false (eventAt t at .tick) now (rw (lt-ltb at m more) at (sym e ∙ failed))
 
 late-is : (t : List ℕ) (m now at : ℕ) → Later t m now at → late t m now at ≡ 1
 late-is t m now at later = ⊎-elim

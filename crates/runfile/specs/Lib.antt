@@ -1,3 +1,4 @@
 pub mod File
 pub mod Run
 pub mod Listing
+pub mod Needs

@@ -6,7 +6,7 @@ use drr::ArrivalAnswer;
 use drr::PickAnswer;
 use drr::Spot;
 ghost use mathlib.Core.Path.{_≡_};
-ghost use mathlib.Core.Bool.{cond};
+ghost use mathlib.Core.Bool.{cond, false};
 ghost use mathlib.Core.List.{_++_, _∷_, []};
 ghost use Prim.Native.Nat.{ℕ, _+_, _*_, _-_, _≤_, _<_};
 ghost use lib.ListN.{length, drop};
@@ -15,6 +15,7 @@ ghost use Rattle.drr.specs.Facts.{Ranged};
 ghost use Rattle.drr.specs.Answers.{arrivalPaper};
 ghost use Rattle.runfile.specs.File.{eventsFrom};
 ghost use Rattle.runfile.specs.Listing.{tally, dropLine, afterEvent, written, eventsListing};
+ghost use Rattle.runfile.specs.Needs.{Room, dueb};
 
 // Packets sent, events refused, and the tick of line 3, so far.
 pub struct Tally {
@@ -49,28 +50,6 @@ fn put_line(out: &mut [u64], k: usize, a: usize, b: usize, c: usize, d: usize, e
     out[at + 5] = f as u64;
 }
 
-// A refused event gives line k. Answers the refusal's number, 0 if it was accepted.
-fn note(
-    out: &mut [u64],
-    k: usize,
-    tick: usize,
-    flow: usize,
-    len: usize,
-    answer: ArrivalAnswer,
-) -> u32
-    requires { ⌜ (6 * k + 6 ≤ length (now out)) × (k ≤ 1024) ⌝ }
-    ensures { λ r. ⌜ (r ≡ arrivalPaper answer .refusal) × (now (out .exit) ≡ written (now (out .entry)) k (dropLine tick flow len (arrivalPaper answer .refusal))) ⌝ }
-{
-    match answer {
-        ArrivalAnswer::Accepted => 0,
-        ArrivalAnswer::Refused(why) => {
-            let number = drr::refusal_number(why);
-            put_line(out, k, 2, tick, flow, len, wide(number), 0);
-            number
-        }
-    }
-}
-
 // The count after an event that was accepted (0) or refused.
 fn after_event(y: Tally, tick: usize, refusal: u32) -> Tally
     requires { ⌜ y .refused < 1000000 ⌝ }
@@ -85,15 +64,90 @@ fn after_event(y: Tally, tick: usize, refusal: u32) -> Tally
     }
 }
 
-// The count after a packet that is sent until the tick `end`.
-fn after_send(y: Tally, end: usize) -> Tally
-    requires { ⌜ y .sent < 1000000 ⌝ }
-    ensures { λ r. ⌜ r ≡ tally (y .sent + 1) (y .refused) end ⌝ }
+// An event that was booked: line k where it was refused, and the count after it.
+fn note(
+    out: &mut [u64],
+    y: Tally,
+    tick: usize,
+    flow: usize,
+    len: usize,
+    answer: ArrivalAnswer,
+) -> Tally
+    requires { ⌜ Room y (now out) ⌝ }
+    ensures { λ r. ⌜ r ≡ afterEvent tick (arrivalPaper answer .refusal) y ⌝ }
+    ensures { λ _. ⌜ now (out .exit) ≡ written (now (out .entry)) (y .sent + y .refused) (dropLine tick flow len (arrivalPaper answer .refusal)) ⌝ }
 {
+    match answer {
+        ArrivalAnswer::Accepted => after_event(y, tick, 0),
+        ArrivalAnswer::Refused(why) => {
+            let number = drr::refusal_number(why);
+            put_line(out, y.sent + y.refused, 2, tick, flow, len, wide(number), 0);
+            after_event(y, tick, number)
+        }
+    }
+}
+
+// The line of a packet that is sent from the tick `start` on, and the count after it.
+fn send_line(
+    out: &mut [u64],
+    y: Tally,
+    start: usize,
+    flow: usize,
+    len: u32,
+    deficit: u32,
+    visits: u32,
+) -> Tally
+    requires { ⌜ Room y (now out) ⌝ }
+    requires { ⌜ start + len ≤ 5000000000 ⌝ }
+    ensures { λ r. ⌜ r ≡ tally (y .sent + 1) (y .refused) (start + len) ⌝ }
+    ensures { λ _. ⌜ now (out .exit) ≡ written (now (out .entry)) (y .sent + y .refused) (1 ∷ start ∷ flow ∷ len ∷ deficit ∷ visits ∷ []) ⌝ }
+{
+    let size = wide(len);
+    put_line(
+        out,
+        y.sent + y.refused,
+        1,
+        start,
+        flow,
+        size,
+        wide(deficit),
+        wide(visits),
+    );
     Tally {
         sent: y.sent + 1,
         refused: y.refused,
-        last: end,
+        last: start + size,
+    }
+}
+
+fn no_lines() -> Tally
+    ensures { λ r. ⌜ r ≡ tally 0 0 0 ⌝ }
+{
+    Tally {
+        sent: 0,
+        refused: 0,
+        last: 0,
+    }
+}
+
+fn closed_at(place: usize) -> Spot
+    ensures { λ r. ⌜ r ≡ record { place = place; opened = false } ⌝ }
+{
+    Spot {
+        place: place,
+        opened: false,
+    }
+}
+
+// Whether event `at` of m is there, and its tick is at or before `tick`.
+fn is_due(t: &[u8], m: usize, at: usize, tick: usize) -> bool
+    requires { ⌜ (8 * m ≤ length (now t)) × (m ≤ 1024) ⌝ }
+    ensures { λ r. ⌜ r ≡ dueb (now (t .entry)) m at tick ⌝ }
+{
+    if at < m {
+        le4(t, 8 * at) <= tick
+    } else {
+        false
     }
 }
 
@@ -115,29 +169,19 @@ pub fn run_events(
     let mut counts = [0u8; 16];
     let mut deficits = [0u32; 16];
     let mut rows = [[0u16; 32]; 16];
-    let mut spot = Spot {
-        place: n - 1,
-        opened: false,
-    };
-    let mut y = Tally {
-        sent: 0,
-        refused: 0,
-        last: 0,
-    };
+    let mut spot = closed_at(n - 1);
+    let mut y = no_lines();
     let mut now: usize = 0;
     let mut at: usize = 0;
     loop {
-        if at < m {
+        if is_due(t, m, at, now) {
             let tick = le4(t, 8 * at);
-            if tick <= now {
-                let flow = le2(t, 8 * at + 4);
-                let len = le2(t, 8 * at + 6);
-                let answer = engine::book(n, maxima, &mut counts, &mut rows, flow, len as u32);
-                let refusal = note(out, y.sent + y.refused, tick, flow, len, answer);
-                y = after_event(y, tick, refusal);
-                at += 1;
-                continue;
-            }
+            let flow = le2(t, 8 * at + 4);
+            let len = le2(t, 8 * at + 6);
+            let answer = engine::book(n, maxima, &mut counts, &mut rows, flow, len as u32);
+            y = note(out, y, tick, flow, len, answer);
+            at += 1;
+            continue;
         }
         let p = engine::pick_in(
             n,
@@ -158,18 +202,7 @@ pub fn run_events(
             now = le4(t, 8 * at);
             continue;
         };
-        let size = wide(len);
-        put_line(
-            out,
-            y.sent + y.refused,
-            1,
-            now,
-            flow,
-            size,
-            wide(deficit),
-            wide(visits),
-        );
-        now += size;
-        y = after_send(y, now);
+        y = send_line(out, y, now, flow, len, deficit, visits);
+        now += wide(len);
     }
 }

@@ -1,6 +1,5 @@
-use mathlib.Core.Path.{_≡_, ap, _∙_}
+use mathlib.Core.Path.{_≡_, refl, ap, _∙_, subst⁻¹}
 use mathlib.Core.List.{List}
-use mathlib.Core.Logic.{⊎-elim}
 use Prim.Native.Nat.{ℕ, _+_, _*_, _-_, _≤_, _<_}
 use native.Mathlib.Omega.{arith}
 use borrow.Author.Needs.{needs}
@@ -11,10 +10,10 @@ use Rattle.drr.specs.Answers.{idle, sentAs, arrivalPaper, pickPaper, outcome}
 use Rattle.drr.specs.Computed.{pickOf}
 use Rattle.drr.proofs.Waiting.{waitingAll}
 use Rattle.engine.proofs.Loop.{sound-bookable}
-use Rattle.runfile.specs.File.{eventsFrom}
+use Rattle.runfile.specs.File.{eventAt, eventsFrom}
 use Rattle.runfile.specs.Listing.{eventsListing}
 use Rattle.runfile.proofs.Lines.{written-length}
-use Rattle.runfile.proofs.Going.{Inside, Later, late, lines, lines-most, line-fits, inside-first, books, booked-less, sends, sent-less, given-most, inside-jumps, jumps-less, run-ends, not-sent}
+use Rattle.runfile.proofs.Going.{Inside, Later, late, lines, lines-most, line-fits, inside-first, books, booked-less, sends, sent-less, given-most, inside-jumps, jumps-less, run-ends, not-sent, is-due, not-due}
 use Rattle.runfile.proofs.turns.run_events.Statement.{statement}
 use Rattle.runfile.proofs.turns.run_events.Tie as tie
 
@@ -29,7 +28,7 @@ abbrev μ-loop : tie.MeasureT-loop
 -- before a turn: the run's parts, and what is known of them
 module _ (a : tie.At-loop Inv-loop μ-loop) where
   abbrev St : tie.Start Inv-loop μ-loop
-  St = a .before .before .before
+  St = a .before .before .before .before .before
 
   abbrev T : Table
   T = tableOf (St .args .n) (St .args .quanta .now) (St .args .maxima .now)
@@ -60,60 +59,58 @@ module _ (a : tie.At-loop Inv-loop μ-loop) where
   fits = line-fits T t m o₀ L (given .2) (a .loop .now) (a .loop .at) (a .loop .y) l (a .loop .out) (a .loop .inv)
 
 -- no event is due where a pick is made
-later : (j : tie.Joined1 Inv-loop μ-loop) → Later (t (j .before)) (m (j .before)) (j .before .loop .now) (j .before .loop .at)
-later j = ⊎-elim (λ w more. rw (w .1 .ensures .0) at (w .2 .left)) (λ w more. absurd (omega (arith, w .left))) (j .if1 .came)
+later : (j : tie.Else1 Inv-loop μ-loop) → Later (t (j .before .before)) (m (j .before .before)) (j .before .before .loop .now) (j .before .before .loop .at)
+later j = let a = j .before .before in not-due (t a) (m a) (a .loop .now) (a .loop .at) (j .before .is-due .ensures) (j .if1 .left)
 
--- ---- an event is booked: the turn's places, from where it was noted
-module _ (z : tie.After-slice-known2 Inv-loop μ-loop) where
-  abbrev N : tie.After-note Inv-loop μ-loop
-  N = z .before .before
+-- ---- an event is booked: the turn's places
+module _ (d : tie.Then1 Inv-loop μ-loop) where
+  abbrev A : tie.At-loop Inv-loop μ-loop
+  A = d .before .before
 
+  due : (A .loop .at < m A) × (eventAt (t A) (A .loop .at) .tick ≤ A .loop .now)
+  due = is-due (t A) (m A) (A .loop .now) (A .loop .at) (d .before .is-due .ensures) (d .if1 .taken)
+
+module _ (N : tie.After-note Inv-loop μ-loop) where
   abbrev B : tie.After-book Inv-loop μ-loop
-  B = N .before .before .before
+  B = N .before .before
 
   abbrev E2 : tie.After-le22 Inv-loop μ-loop
   E2 = B .before .before .before
 
-  abbrev D : tie.Then2 Inv-loop μ-loop
-  D = E2 .before .before
-
   abbrev K : tie.After-le4 Inv-loop μ-loop
-  K = D .before
+  K = E2 .before .before
 
-  abbrev A : tie.At-loop Inv-loop μ-loop
-  A = K .before .before
+  abbrev D : tie.Then1 Inv-loop μ-loop
+  D = K .before
 
 loop-again : tie.Need-loop-again Inv-loop μ-loop
 loop-again c =
-    let z = c .before in
-    let a = A z in
+    let n = c .before .before in
+    let a = A (D n) in
     books (T a) (t a) (m a) (o₀ a) (L a) (given a .2) (a .loop .now) (a .loop .at) (a .loop .y) (l a) (a .loop .out) (a .loop .inv)
-    (K z .le4 .result) (E2 z .before .le2 .result) (E2 z .le22 .result) (K z .le4 .ensures .0) (E2 z .before .le2 .ensures .0) (E2 z .le22 .ensures .0)
-    (K z .before .if1 .taken) (D z .if2 .taken) (arrivalPaper (B z .book .result)) _ (B z .book .ensures (St a .args .quanta .now) (a .loop .deficits) (a .loop .spot))
-    _ (N z .note .ensures .1) (N z .note .result) (N z .note .ensures .0) _ (c .after-event .ensures)
+    (K n .le4 .result) (E2 n .before .le2 .result) (E2 n .le22 .result) (K n .le4 .ensures .0) (E2 n .before .le2 .ensures .0) (E2 n .le22 .ensures .0)
+    (due (D n) .0) (subst⁻¹ (λ (x : ℕ). x ≤ a .loop .now) (K n .le4 .ensures .0) (due (D n) .1)) (arrivalPaper (B n .book .result)) _ (B n .book .ensures (St a .args .quanta .now) (a .loop .deficits) (a .loop .spot))
+    _ (n .note .ensures .1) (arrivalPaper (B n .book .result) .refusal) refl _ (n .note .ensures .0)
 
 loop-less : tie.Need-loop-less Inv-loop μ-loop
 loop-less c =
-    let z = c .before in
-    let a = A z in
+    let n = c .before .before in
+    let a = A (D n) in
     booked-less (T a) (t a) (m a) (o₀ a) (L a) (given a .2) (a .loop .now) (a .loop .at) (a .loop .y) (l a) (a .loop .out) (a .loop .inv)
-    (K z .le4 .result) (E2 z .before .le2 .result) (E2 z .le22 .result) (K z .le4 .ensures .0) (E2 z .before .le2 .ensures .0) (E2 z .le22 .ensures .0)
-    (K z .before .if1 .taken) (D z .if2 .taken) (arrivalPaper (B z .book .result)) _ (B z .book .ensures (St a .args .quanta .now) (a .loop .deficits) (a .loop .spot))
+    (K n .le4 .result) (E2 n .before .le2 .result) (E2 n .le22 .result) (K n .le4 .ensures .0) (E2 n .before .le2 .ensures .0) (E2 n .le22 .ensures .0)
+    (due (D n) .0) (subst⁻¹ (λ (x : ℕ). x ≤ a .loop .now) (K n .le4 .ensures .0) (due (D n) .1)) (arrivalPaper (B n .book .result)) _ (B n .book .ensures (St a .args .quanta .now) (a .loop .deficits) (a .loop .spot))
 
 -- ---- a pick: the place before it
-abbrev J : tie.After-pick-in Inv-loop μ-loop → tie.Joined1 Inv-loop μ-loop
+abbrev J : tie.After-pick-in Inv-loop μ-loop → tie.Else1 Inv-loop μ-loop
 J p = p .before .before .before .before
 
 -- .. it sends
-module _ (w : tie.After-wide Inv-loop μ-loop) where
+module _ (G : tie.After-answer Inv-loop μ-loop) where
   abbrev P : tie.After-pick-in Inv-loop μ-loop
-  P = w .before .before .before .before .before
+  P = G .before .before .before
 
   abbrev A₁ : tie.At-loop Inv-loop μ-loop
-  A₁ = J P .before
-
-  abbrev G : tie.After-answer Inv-loop μ-loop
-  G = w .before .before
+  A₁ = J P .before .before
 
   abbrev f : ℕ
   f = G .answer .given .0 .0
@@ -138,19 +135,20 @@ module _ (w : tie.After-wide Inv-loop μ-loop) where
 loop-again-3 : tie.Need-loop-again-3 Inv-loop μ-loop
 loop-again-3 c =
     let q = c .before .before .before in
-    let w = q .before .before .before .before .before in
-    let a = A₁ w in
-    sends (T a) (t a) (m a) (o₀ a) (L a) (given a .2) (a .loop .now) (a .loop .at) (a .loop .y) (l a) (a .loop .out) (a .loop .inv)
-    (later (J (P w))) (pickPaper (P w .pick-in .result .answer)) _ (P w .pick-in .ensures) (f w) (len w) (d w) (v w) (told w) (w .wide .result) (w .wide .ensures)
-    _ _ (q .before .before .wide2 .ensures) (q .before .wide3 .ensures) _ (q .put-line2 .ensures) _ (c .after-send .ensures)
+    let g = q .before .before .before in
+    let a = A₁ g in
+    rw (c .wide .ensures)
+    (sends (T a) (t a) (m a) (o₀ a) (L a) (given a .2) (a .loop .now) (a .loop .at) (a .loop .y) (l a) (a .loop .out) (a .loop .inv)
+    (later (J (P g))) (pickPaper (P g .pick-in .result .answer)) _ (P g .pick-in .ensures) (f g) (len g) (d g) (v g) (told g) (len g) refl
+    (d g) (v g) refl refl _ (q .send-line .ensures .1) _ (q .send-line .ensures .0))
 
 loop-less-3 : tie.Need-loop-less-3 Inv-loop μ-loop
 loop-less-3 c =
     let q = c .before .before .before in
-    let w = q .before .before .before .before .before in
-    let a = A₁ w in
+    let g = q .before .before .before in
+    let a = A₁ g in
     sent-less (T a) (t a) (m a) (o₀ a) (L a) (given a .2) (a .loop .now) (a .loop .at) (a .loop .y) (l a) (a .loop .out) (a .loop .inv)
-    (later (J (P w))) (pickPaper (P w .pick-in .result .answer)) _ (P w .pick-in .ensures) (f w) (len w) (d w) (v w) (told w) (w .wide .result) (w .wide .ensures)
+    (later (J (P g))) (pickPaper (P g .pick-in .result .answer)) _ (P g .pick-in .ensures) (f g) (len g) (d g) (v g) (told g) (c .wide .result) (c .wide .ensures)
 
 -- .. it is idle
 module _ (k : tie.At-match-keys2 Inv-loop μ-loop) where
@@ -158,7 +156,7 @@ module _ (k : tie.At-match-keys2 Inv-loop μ-loop) where
   P₂ = k .before .before
 
   abbrev A₂ : tie.At-loop Inv-loop μ-loop
-  A₂ = J P₂ .before
+  A₂ = J P₂ .before .before
 
   abbrev l₂ : Line
   l₂ = lineOf (P₂ .pick-in .last .1 .1 .1 .0) (P₂ .pick-in .last .1 .1 .1 .1 .0) (P₂ .pick-in .last .1 .1 .1 .1 .1 .0) (P₂ .pick-in .result .spot)
@@ -173,14 +171,14 @@ returns c =
     let k = e .before in
     let a = A₂ k in
     run-ends (T a) (t a) (m a) (o₀ a) (L a) (given a .2) (a .loop .now) (a .loop .at) (a .loop .y) (l a) (a .loop .out) (a .loop .inv)
-    (later (J (P₂ k))) (l₂ k) (idles k) (e .if3 .taken) _ (q .put-line .ensures)
+    (later (J (P₂ k))) (l₂ k) (idles k) (e .if2 .taken) _ (q .put-line .ensures)
 
 module _ (g : tie.After-le42 Inv-loop μ-loop) where
   abbrev K₂ : tie.At-match-keys2 Inv-loop μ-loop
   K₂ = g .before .before
 
   more : A₂ K₂ .loop .at < m (A₂ K₂)
-  more = g .before .if3 .left
+  more = g .before .if2 .left
 
 loop-again-2 : tie.Need-loop-again-2 Inv-loop μ-loop
 loop-again-2 g =
@@ -208,6 +206,18 @@ small a = omega (arith, a .loop .inv .at-most, given a .1)
 now-small : (a : tie.At-loop Inv-loop μ-loop) → a .loop .now ≤ 4304404480
 now-small a = omega (arith, a .loop .inv .now-most, few a)
 
+loop-holds : tie.Need-loop-holds Inv-loop μ-loop
+loop-holds c =
+    let s = c .before .before .before .before in
+    rw (c .no-lines .ensures, c .before .closed-at .ensures)
+    (inside-first (tableOf (s .args .n) (s .args .quanta .now) (s .args .maxima .now)) (s .args .t .now) (s .args .m) (s .args .out .now) (s .pre .1 .0 .0))
+
+same-length : tie.Need-same-length Inv-loop μ-loop
+same-length c =
+    let p = c .before .before in
+    let a = A₂ (p .before .before .before .before) in
+    ap length (p .put-line .ensures) ∙ written-length (a .loop .out) _ (lines (a .loop .y)) (fits a) ∙ a .loop .inv .size
+
 pub run-events-spec : {M : Type 1} → statement M
 run-events-spec =
     tie.close
@@ -215,40 +225,36 @@ run-events-spec =
     Inv-loop
     μ-loop
     (λ c. c .before .before .pre .1 .0 .1)
-    (λ c. let s = c .before .before in inside-first (tableOf (s .args .n) (s .args .quanta .now) (s .args .maxima .now)) (s .args .t .now) (s .args .m) (s .args .out .now) (s .pre .1 .0 .0))
-    (λ c. omega (arith, small (c .before)))
-    (λ c κs. omega (arith, within (c .before) (c .if1 .taken)))
-    (λ c. omega (arith, small (c .before .before .before)))
-    (λ c. omega (arith, small (c .before .before .before)))
-    (λ c κs. omega (arith, within (c .before .before .before) (c .before .before .if1 .taken)))
-    (λ c. omega (arith, small (c .before .before .before .before)))
-    (λ c. omega (arith, small (c .before .before .before .before)))
-    (λ c κs. omega (arith, within (c .before .before .before .before) (c .before .before .before .if1 .taken)))
-    (λ c. omega (arith, c .before .before .le22 .ensures .1))
-    (λ c κs. sound-bookable (c .before .before .before .before .before .before .before .loop .inv .sound))
-    (λ c. omega (arith, few (c .before .before .before .before .before .before .before .before .before .before)))
-    (λ c κs. let a = c .before .before .before .before .before .before .before .before .before .before in (fits a, few a))
-    (λ c κs. omega (arith, few (A c)))
+    (λ c κs. _)
+    (λ c κs. _)
+    loop-holds
+    (λ c κs. (given c .0, given c .1))
+    (λ c. omega (arith, small (A c)))
+    (λ c κs. omega (arith, within (A c) (due c .0)))
     (λ c. omega (arith, small (A (c .before))))
+    (λ c. omega (arith, small (A (c .before))))
+    (λ c κs. omega (arith, within (A (c .before)) (due (c .before) .0)))
+    (λ c. omega (arith, small (A (c .before .before))))
+    (λ c. omega (arith, small (A (c .before .before))))
+    (λ c κs. omega (arith, within (A (c .before .before)) (due (c .before .before) .0)))
+    (λ c. omega (arith, c .before .before .le22 .ensures .1))
+    (λ c κs. sound-bookable (A (c .before .before .before .before .before) .loop .inv .sound))
+    (λ c κs. let a = A (c .before .before .before .before .before .before .before) in (fits a, few a))
+    (λ c. omega (arith, small (A (D (c .before .before)))))
     loop-less
     loop-again
-    (λ c κs. c .before .before .before .before .loop .inv .sound)
+    (λ c κs. c .before .before .before .before .before .loop .inv .sound)
     (λ c. search needs)
-    (λ c. omega (arith, few (c .before .before .before .before .before .before .before .before .before .before)))
-    (λ c κs. let a = c .before .before .before .before .before .before .before .before .before .before in (fits a, few a))
-    (λ c. let p = c .before .before in let a = p .before .before .before .before .before .before .before .before .before .before .before in
-    ap length (p .put-line .ensures) ∙ written-length (a .loop .out) _ (lines (a .loop .y)) (fits a) ∙ a .loop .inv .size)
+    (λ c. omega (arith, few (A₂ (c .before .before .before))))
+    (λ c κs. let a = A₂ (c .before .before .before) in (fits a, few a))
+    same-length
     returns
     (λ c. omega (arith, small (A₂ (c .before))))
-    (λ c κs. omega (arith, within (A₂ (c .before)) (c .if3 .left)))
+    (λ c κs. omega (arith, within (A₂ (c .before)) (c .if2 .left)))
     loop-less-2
     loop-again-2
-    (λ c κs. search needs)
-    (λ c. omega (arith, few (A₁ (c .before .before))))
-    (λ c κs. search needs)
-    (λ c κs. search needs)
-    (λ c κs. let a = A₁ (c .before .before .before .before) in (fits a, few a))
-    (λ c. let w = c .before .before .before .before .before .before .before in omega (arith, now-small (A₁ w), most w, w .wide .ensures))
-    (λ c κs. let w = c .before .before .before .before .before .before .before in omega (arith, few (A₁ w)))
+    (λ c κs. let g = c .before .before in let a = A₁ g in ((fits a, few a), omega (arith, now-small a, most g)))
+    (λ c κs. _)
+    (λ c. let g = c .before .before .before .before .before .before in omega (arith, now-small (A₁ g), most g, c .wide .ensures))
     loop-less-3
     loop-again-3)
