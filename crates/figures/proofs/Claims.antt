@@ -1,5 +1,5 @@
 -- What is proved of the figures beyond the functions' contracts.
--- (`lag_in`, `owed_in` and `wait_in` promise an equation for the result itself. Vectors.antt has P1 to P12.)
+-- (Vectors.antt has P1 to P12.)
 use mathlib.Core.Path.{_≡_, refl, sym, _∙_}
 use mathlib.Core.Bool.{cond}
 use Prim.Native.Nat.{ℕ}

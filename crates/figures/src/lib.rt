@@ -68,7 +68,7 @@ fn lag_of(quantum: u64, maximum: u64, quanta: u64, maxima: u64) -> u64
 }
 
 // C of a flow of the table.
-pub fn lag_in(n: usize, quanta: &[u32; 16], maxima: &[u32; 16], flow: usize) -> u64
+fn lag_in(n: usize, quanta: &[u32; 16], maxima: &[u32; 16], flow: usize) -> u64
     requires { ⌜ Ranged (tableOf n (now quanta) (now maxima)) ⌝ }
     requires { ⌜ flow < n ⌝ }
     ensures { λ r. ⌜ r ≡ lagOf (tableOf n (now (quanta .entry)) (now (maxima .entry))) flow ⌝ }
@@ -81,7 +81,7 @@ pub fn lag_in(n: usize, quanta: &[u32; 16], maxima: &[u32; 16], flow: usize) -> 
 }
 
 // Q × S - C by F, rounded up; nothing is owed while Q × S is at most C.
-pub fn owed_in(n: usize, quanta: &[u32; 16], maxima: &[u32; 16], flow: usize, bytes: u32) -> u64
+fn owed_in(n: usize, quanta: &[u32; 16], maxima: &[u32; 16], flow: usize, bytes: u32) -> u64
     requires { ⌜ Ranged (tableOf n (now quanta) (now maxima)) ⌝ }
     requires { ⌜ flow < n ⌝ }
     ensures { λ r. ⌜ r ≡ owedOf (tableOf n (now (quanta .entry)) (now (maxima .entry))) flow bytes ⌝ }
@@ -95,7 +95,7 @@ pub fn owed_in(n: usize, quanta: &[u32; 16], maxima: &[u32; 16], flow: usize, by
 }
 
 // "C / Q rounded down, plus 1": that is C + 1 by Q, rounded up.
-pub fn wait_in(n: usize, quanta: &[u32; 16], maxima: &[u32; 16], flow: usize) -> u64
+fn wait_in(n: usize, quanta: &[u32; 16], maxima: &[u32; 16], flow: usize) -> u64
     requires { ⌜ Ranged (tableOf n (now quanta) (now maxima)) ⌝ }
     requires { ⌜ flow < n ⌝ }
     ensures { λ r. ⌜ r ≡ waitOf (tableOf n (now (quanta .entry)) (now (maxima .entry))) flow ⌝ }

@@ -74,7 +74,7 @@ pub fn header(file: &[u8]) -> Verdict
 }
 
 // The setup of n flow records that stand at the start of a part of the file: 6 and 7 by flow.
-pub fn setup_table(t: &[u8], n: usize) -> Made
+fn setup_table(t: &[u8], n: usize) -> Made
     requires { ⌜ (8 * n ≤ length (now t)) × (1 ≤ n) × (n ≤ 16) ⌝ }
     ensures { λ r. ⌜ reply (verdictPaper (r .answer)) (r .state) ≡ setupReply (flowsFrom (now (t .entry)) 0 n) ⌝ }
 {
@@ -90,7 +90,7 @@ pub fn setup_table(t: &[u8], n: usize) -> Made
 }
 
 // 13, of m events that stand at the start of a part of the file.
-pub fn ticks(t: &[u8], m: usize) -> Verdict
+fn ticks(t: &[u8], m: usize) -> Verdict
     requires { ⌜ (8 * m ≤ length (now t)) × (m ≤ 1024) ⌝ }
     ensures { λ r. ⌜ verdictPaper r ≡ ticksAnswer 0 0 (eventsFrom (now (t .entry)) 0 m) ⌝ }
 {

@@ -1,8 +1,9 @@
 // Document 01's worked example by direct calls of setup, arrival and pick.
 //
 // Prints a line a call: `A flow length` for an accepted arrival, `D flow length refusal` for a
-// refused one, `S flow length deficit visits` for a packet sent, `I` for idle, `R refusal place` for
-// a refused setup. The ticks of the run are left out: the calls stand in its order.
+// refused one, `S flow length deficit visits` for a packet sent, `I` for idle, and after each pick
+// `= deficit deficit deficit`, those of the three flows; `R refusal place` for a refused setup. The ticks
+// of the run are left out: the calls stand in its order.
 use drr::ArrivalAnswer;
 use drr::FlowRecord;
 use drr::PickAnswer;
@@ -24,6 +25,14 @@ fn field(x: u64) {
 
 fn end() {
     io::write_all(1, b"\n");
+}
+
+fn show(deficits: [u32; 16]) {
+    io::write_all(1, b"=");
+    field(wide(deficits[0]));
+    field(wide(deficits[1]));
+    field(wide(deficits[2]));
+    end();
 }
 
 fn arrive(s: State, flow: usize, length: u32) -> State {
@@ -68,7 +77,11 @@ fn take(s: State) -> State {
             end();
         }
     }
-    r.state
+    let after = r.state;
+    let line = after.line;
+    let deficits = line.deficits;
+    show(deficits);
+    after
 }
 
 fn calls(fresh: State) {
