@@ -716,10 +716,12 @@ mod tests {
 
     #[test]
     fn figures_of_the_worked_example() {
-        let expected = "0 500 800 1610000 3221 0 1 2825\n1 300 800 1410000 4701 0 0 1325\n\
-                        2 400 600 1440000 3601 0 0 2134\n";
+        let expected = "0 500 800 1610000 3221 0 1 2825 40325 415325\n\
+                        1 300 800 1410000 4701 0 0 1325 23825 248825\n\
+                        2 400 600 1440000 3601 0 0 2134 32134 332134\n";
+        let sizes = [3_220, 3_221, 10_000, 100_000, 1_000_000];
         let unsorted = file(&TABLE, &[(1, 0, 1), (0, 0, 1)]);
-        assert_eq!(figures_text(&unsorted, &[3220, 3221, 10_000]), expected);
+        assert_eq!(figures_text(&unsorted, &sizes), expected);
         assert_eq!(figures_text(&unsorted[1..], &[1]), "R 9 0\n");
     }
 
