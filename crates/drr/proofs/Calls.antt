@@ -12,19 +12,19 @@ use Rattle.drr.specs.declared.State.{State}
 use Rattle.drr.specs.declared.FlowRecord.{FlowRecord}
 use Rattle.drr.specs.declared.Found.{Found}
 use Rattle.drr.specs.declared.Found.the-variants.{At, Nothing}
-use Rattle.drr.specs.State.{Line, deficitOf, due, lineIn, stateFrom, freshLine, freshState, emptyTable}
+use Rattle.drr.specs.State.{Line, deficitOf, oldestCharge, lineIn, stateFrom, freshLine, freshState, emptyTable}
 use Rattle.drr.specs.Sound.{soundState}
 use Rattle.drr.specs.Facts.{Ranged, Sound, SoundState, ShapedState}
 use Rattle.drr.specs.Answers.{Answer, idle, Outcome, Reply, reply, pickRefused, guarded}
 use Rattle.drr.specs.Pick.{next, openAt, closed, emptied, idles, starts}
 use Rattle.drr.specs.Computed.{serve, turn, lookFor, enough, carryOn, readyb, pickAt, pickOf, pickReply}
-use Rattle.drr.specs.Setup.{setupAnswer, setupReply}
+use Rattle.drr.specs.Setup.{setupAnswer, setupTable, setupReply}
 use Rattle.drr.proofs.Bools.{by-test, dec}
 use Rattle.drr.proofs.Facts.{sound-is, of-sound}
 use Rattle.drr.proofs.Search.{first-empty}
 use Rattle.drr.proofs.One.{pick-only}
 use Rattle.drr.proofs.States.{state-back, line-back, guarded-sound, guarded-not}
-use Rattle.drr.proofs.Tables.{zero-at, fresh-sound, no-flows-ranged, made-ranged}
+use Rattle.drr.proofs.Tables.{zero-at, fresh-sound, setup-ranged}
 use Rattle.drr.proofs.Keeps.{pick-keeps, idle-again}
 
 -- ---- the state made of a sound line is sound
@@ -35,17 +35,13 @@ pub fresh-state-sound : {T : Table} → Ranged T → SoundState (freshState T)
 fresh-state-sound {T} r = whole-sound T (freshLine (T .n)) (fresh-sound r)
 
 pub setup-keeps : (xs : List FlowRecord) → SoundState (setupReply xs .state)
-unfolding setupReply
-setup-keeps xs =
-    by-test (λ (z : Reply). SoundState (z .state)) (eqb (setupAnswer xs .refusal) 0)
-    (λ e. fresh-state-sound (made-ranged xs (eqb-true (setupAnswer xs .refusal) 0 e)))
-    (λ _. fresh-state-sound no-flows-ranged)
+setup-keeps xs = fresh-state-sound (setup-ranged xs)
 
 pub setup-refused : (xs : List FlowRecord) → (setupReply xs .answer .refusal ≡ 0 → ⊥) → setupReply xs .state ≡ emptyTable
-unfolding setupReply
-setup-refused xs =
-    by-test (λ (z : Reply). (z .answer .refusal ≡ 0 → ⊥) → z .state ≡ emptyTable) (eqb (setupAnswer xs .refusal) 0)
-    (λ e no. absurd (no (eqb-true (setupAnswer xs .refusal) 0 e))) (λ _ _. refl)
+unfolding setupTable
+setup-refused xs some =
+    by-test (λ (T : Table). freshState T ≡ emptyTable) (eqb (setupAnswer xs .refusal) 0)
+    (λ e. absurd (some (eqb-true (setupAnswer xs .refusal) 0 e))) (λ _. refl)
 
 -- ---- a call that gives the outcome o on the state's line
 module _ (s : State) (unsound : Answer) (o : Outcome) where
@@ -69,7 +65,7 @@ serve-fine false v l f goto2 h = h (closed l)
 
 turn-fine : (T : Table) (v : ℕ) (l : Line) (o : Found) (goto2 : Line → Outcome) → ((t : Line) → Fine (goto2 t)) → Fine (turn T v l o goto2)
 turn-fine T v l Nothing goto2 h = refl
-turn-fine T v l (At f) goto2 h = serve-fine (leb (due l f) (deficitOf (openAt T l f) f)) (v + 1) (openAt T l f) f goto2 h
+turn-fine T v l (At f) goto2 h = serve-fine (leb (oldestCharge l f) (deficitOf (openAt T l f) f)) (v + 1) (openAt T l f) f goto2 h
 
 look-fine : (T : Table) (k v : ℕ) (l : Line) → Fine (lookFor T k v l)
 unfolding lookFor

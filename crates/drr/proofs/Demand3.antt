@@ -16,7 +16,7 @@ use Rattle.drr.specs.Answers.{Outcome, outcome, Reply, reply, arrivalRef
 use Rattle.drr.specs.Arrival.{arrivalOf}
 use Rattle.drr.specs.Computed.{pickOf}
 use Rattle.drr.specs.Figures.{total, allQuanta, owed}
-use Rattle.drr.specs.Floor.{Call, arrives, picks, replyTo, afterCalls, sentIn, bytesIn, bytesSent, flowSent, WaitsAtPicks, Floor}
+use Rattle.drr.specs.Floor.{Call, arrives, picks, replyTo, afterCalls, callOf, lineAfter, sentIn, bytesIn, bytesSent, flowSent, WaitsAtPicks, Floor}
 use Rattle.drr.proofs.Bools.{by-test}
 use Rattle.drr.proofs.Facts.{of-sound}
 use Rattle.drr.proofs.One.{pick-is}
@@ -32,21 +32,13 @@ use Rattle.drr.proofs.Bounds.{sound-bounded, fair}
 use Rattle.drr.proofs.Service.{view, picks-serve, booking}
 
 -- ---- calls on a line
-abbrev pub callOf : Table → Line → Call → Outcome
-callOf T l (arrives flow length) = arrivalOf T l flow length
-callOf T l picks = pickOf T l
-
-abbrev pub lineAfter : Table → Line → List Call → Line
-lineAfter T l [] = l
-lineAfter T l (c ∷ cs) = lineAfter T (callOf T l c .line) cs
-
 abbrev pub lineBytes : Table → Line → List Call → ℕ
 lineBytes T l [] = 0
-lineBytes T l (c ∷ cs) = bytesIn (callOf T l c .answer .numbers) + lineBytes T (callOf T l c .line) cs
+lineBytes T l (c ∷ cs) = bytesIn (callOf T l c .answer) + lineBytes T (callOf T l c .line) cs
 
 abbrev pub lineSent : Table → Line → List Call → ℕ → ℕ
 lineSent T l [] i = 0
-lineSent T l (c ∷ cs) i = sentIn (callOf T l c .answer .numbers) i + lineSent T (callOf T l c .line) cs i
+lineSent T l (c ∷ cs) i = sentIn (callOf T l c .answer) i + lineSent T (callOf T l c .line) cs i
 
 abbrev pub LineWaits : Table → Line → List Call → ℕ → Type 0
 LineWaits T l [] i = Unit {0}
@@ -67,8 +59,8 @@ module _ (T : Table) {Fit : Line → Type 0} {rank : Line → ℕ → ℕ} (O : 
   seenBy l = view T O i i<n l
 
   record Step (l : Line) (o : Outcome) : Type 0 where
-    run : Stretch (T .n) (quantumOf T) i (seenBy l) (sentIn (o .answer .numbers)) (seenBy (o .line))
-    whole : total (T .n) (sentIn (o .answer .numbers)) ≡ bytesIn (o .answer .numbers)
+    run : Stretch (T .n) (quantumOf T) i (seenBy l) (sentIn (o .answer)) (seenBy (o .line))
+    whole : total (T .n) (sentIn (o .answer)) ≡ bytesIn (o .answer)
     fit : Fit (o .line)
 
   arrival-steps : (l : Line) → Fit l → (f len : ℕ) → Step l (arrivalOf T l f len)
@@ -92,7 +84,7 @@ module _ (T : Table) {Fit : Line → Type 0} {rank : Line → ℕ → ℕ} (O : 
   then-ran : (l : Line) (c : Call) (cs : List Call) → Step l (callOf T l c) → Ran (callOf T l c .line) cs → Ran l (c ∷ cs)
   then-ran l c cs a b = record {
     run = follow (a .run) (b .run);
-    whole = total-add (T .n) (sentIn (callOf T l c .answer .numbers)) (lineSent T (callOf T l c .line) cs) ∙ omega (arith, a .whole, b .whole);
+    whole = total-add (T .n) (sentIn (callOf T l c .answer)) (lineSent T (callOf T l c .line) cs) ∙ omega (arith, a .whole, b .whole);
     fit = b .fit;
   }
 
@@ -160,8 +152,8 @@ same T l ok (c ∷ cs) = go c (reply-is T l ok c) (same T (callOf T l c .line) (
     go : (c : Call) → replyTo (stateFrom T l) c ≡ reply (callOf T l c .answer) (stateFrom T (callOf T l c .line)) → Same T (callOf T l c .line) cs → Same T l (c ∷ cs)
     go c e s = record {
       after = ap (λ (z : Reply). afterCalls (z .state) cs) e ∙ s .after;
-      bytes = ap (λ (z : Reply). bytesIn (z .answer .numbers) + bytesSent (z .state) cs) e ∙ ap (λ (k : ℕ). bytesIn (callOf T l c .answer .numbers) + k) (s .bytes);
-      sent = λ i. ap (λ (z : Reply). sentIn (z .answer .numbers) i + flowSent (z .state) cs i) e ∙ ap (λ (k : ℕ). sentIn (callOf T l c .answer .numbers) i + k) (s .sent i);
+      bytes = ap (λ (z : Reply). bytesIn (z .answer) + bytesSent (z .state) cs) e ∙ ap (λ (k : ℕ). bytesIn (callOf T l c .answer) + k) (s .bytes);
+      sent = λ i. ap (λ (z : Reply). sentIn (z .answer) i + flowSent (z .state) cs i) e ∙ ap (λ (k : ℕ). sentIn (callOf T l c .answer) i + k) (s .sent i);
       waits = waits c e s;
     }
 

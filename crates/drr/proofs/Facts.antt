@@ -9,29 +9,33 @@ use lib.Dec.{ltb, leb, eqb}
 use lib.ListN.{getD}
 use Rattle.drr.specs.declared.Table.{Table}
 use Rattle.drr.specs.State.{Line, quantumOf, maximumOf, deficitOf, waitingOf, rowOf, oldest, charge}
-use Rattle.drr.specs.Sound.{all, headb, rangeb, withinb, creditb, unusedb, numbersb, visited, cellsb, flowb, soundb}
+use Rattle.drr.specs.Limits.{leastQuantum, mostQuantum, leastMaximum, mostMaximum, mostWaiting}
+use Rattle.drr.specs.Sound.{all, quantumb, maximumb, headb, rangeb, withinb, creditb, unusedb, numbersb}
+use Rattle.drr.specs.Sound.{visited, cellsb, flowb, soundb}
 use Rattle.drr.specs.Facts.{Credit, InUse, Unused, Flow, Shaped, Sound}
 use Rattle.drr.proofs.Bools.{and-left, and-right, and-both, or-cases, or-inl, or-inr, not-of, chosen, choose, within-of, within-is, all-at, all-of}
 
 module _ (q m c : ℕ) where
   in-use : rangeb q m c ≡ true → InUse q m c
   in-use e =
-      let w = and-left (withinb 1 65535 q && withinb 1 9216 m) (leb c 32) e in
-      let wq = within-is 1 65535 q (and-left (withinb 1 65535 q) (withinb 1 9216 m) w) in
-      let wm = within-is 1 9216 m (and-right (withinb 1 65535 q) (withinb 1 9216 m) w) in
+      let w = and-left (quantumb q && maximumb m) (leb c mostWaiting) e in
+      let wq = within-is leastQuantum mostQuantum q (and-left (quantumb q) (maximumb m) w) in
+      let wm = within-is leastMaximum mostMaximum m (and-right (quantumb q) (maximumb m) w) in
       record {
         quantum-least = wq .0;
         quantum-most = wq .1;
         maximum-least = wm .0;
         maximum-most = wm .1;
-        count-most = leb-true c 32 (and-right (withinb 1 65535 q && withinb 1 9216 m) (leb c 32) e);
+        count-most = leb-true c mostWaiting (and-right (quantumb q && maximumb m) (leb c mostWaiting) e);
       }
 
   of-in-use : InUse q m c → rangeb q m c ≡ true
   of-in-use u =
       and-both
-      (and-both (within-of 1 65535 q (u .quantum-least) (u .quantum-most)) (within-of 1 9216 m (u .maximum-least) (u .maximum-most)))
-      (le-leb c 32 (u .count-most))
+      (and-both
+      (within-of leastQuantum mostQuantum q (u .quantum-least) (u .quantum-most))
+      (within-of leastMaximum mostMaximum m (u .maximum-least) (u .maximum-most)))
+      (le-leb c mostWaiting (u .count-most))
 
 module _ (v : Bool) (d q c o : ℕ) where
   abbrev closedb : Bool

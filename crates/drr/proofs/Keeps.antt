@@ -5,7 +5,6 @@ use Prim.Native.Nat.{ℕ, _+_}
 use native.Mathlib.Omega.{arith}
 use borrow.Author.Tests.{leb-false, ltb-false, eqb-false}
 use lib.Dec.{ltb, leb, eqb}
-use lib.ListN.{length}
 use Rattle.drr.specs.declared.Table.{Table}
 use Rattle.drr.specs.declared.Found.the-variants.{Nothing}
 use Rattle.drr.specs.State.{Line, maximumOf, waitingOf}
@@ -17,6 +16,7 @@ use Rattle.drr.specs.Pick.Looks.{idles, sends, passes}
 use Rattle.drr.specs.Pick.Picks.{goes-on, closes, starts}
 use Rattle.drr.specs.Computed.{look, turn, pickAt, pickOf}
 use Rattle.drr.proofs.Bools.{by-test}
+use Rattle.drr.proofs.Papers.{sent-not-idle}
 use Rattle.drr.proofs.Steps.{puts, visit-passes, visit-sends, on-sends, on-ends}
 use Rattle.drr.proofs.One.{look-unfolds, pick-is}
 
@@ -58,11 +58,11 @@ pick-keeps T l ok = picks-keep (pick-is T l ok) ok
 -- an idle pick leaves no visit open, and nothing to find
 looks-idle : {T : Table} {v : ℕ} {l : Line} {a : Answer} {t : Line} → Looks T v l a t → a ≡ idle → l .opened ≡ false → (t .opened ≡ false) × (next T t ≡ Nothing)
 looks-idle (idles e) is off = (off, e)
-looks-idle (sends e enough) is off = absurd (let z = ap (λ (x : Answer). length (x .numbers)) is in omega arith)
+looks-idle (sends e enough) is off = absurd (sent-not-idle is)
 looks-idle (passes e short r) is off = looks-idle r is refl
 
 picks-idle : {T : Table} {l : Line} {a : Answer} {t : Line} → Picks T l a t → a ≡ idle → (t .opened ≡ false) × (next T t ≡ Nothing)
-picks-idle (goes-on on r) is = absurd (let z = ap (λ (x : Answer). length (x .numbers)) is in omega arith)
+picks-idle (goes-on on r) is = absurd (sent-not-idle is)
 picks-idle (closes on stuck r) is = looks-idle r is refl
 picks-idle (starts off r) is = looks-idle r is off
 

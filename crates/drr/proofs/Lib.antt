@@ -1,5 +1,6 @@
 -- Laws of the definitions.
 pub mod Bools
+pub mod Copies
 pub mod Search
 pub mod Facts
 pub mod Shape

@@ -28,7 +28,7 @@ take-set (x ∷ xs) zero v h = refl
 take-set (x ∷ xs) (suc c) v h = ap (λ (r : List ℕ). x ∷ r) (take-set xs c v (omega arith))
 
 module _ (T : Table) (i : ℕ) (i<n : i < T .n) where
-  pub pick-takes : (l : Line) → Sound T l → lengthsIn l i ≡ givenIn (pickOf T l .answer .numbers) i ++ lengthsIn (pickOf T l .line) i
+  pub pick-takes : (l : Line) → Sound T l → lengthsIn l i ≡ givenIn (pickOf T l .answer) i ++ lengthsIn (pickOf T l .line) i
   pick-takes l ok = picks-serve T (cyclic T) i i<n (pick-is T l ok) ok (placed ok i<n) .took
 
   module _ (l : Line) (ok : Sound T l) (f len : ℕ) where

@@ -11,7 +11,7 @@ use lib.ListN.{length, getD, set, take, length-set}
 use lib.Seq.{getD-set-same, getD-set-other, set-getD, take-append-le}
 use Rattle.drr.specs.declared.Table.{Table}
 use Rattle.drr.specs.declared.Found.the-variants.{At, Nothing}
-use Rattle.drr.specs.State.{Line, quantumOf, maximumOf, deficitOf, waitingOf, rowOf, oldest, due, shiftedOf}
+use Rattle.drr.specs.State.{Line, quantumOf, maximumOf, deficitOf, waitingOf, rowOf, oldest, oldestCharge, shiftedOf}
 use Rattle.drr.specs.Facts.{Sound}
 use Rattle.drr.specs.Answers.{Answer, idle, sentAs}
 use Rattle.drr.specs.Arrival.{put}
@@ -21,12 +21,13 @@ use Rattle.drr.specs.Pick.Picks.{goes-on, closes, starts}
 use Rattle.drr.specs.Figures.{total}
 use Rattle.drr.specs.Floor.{givenIn, sentIn, bytesIn}
 use Rattle.drr.proofs.Bools.{same?}
+use Rattle.drr.proofs.Papers.{sent-not-idle}
 use Rattle.drr.proofs.Steps.{found-in, grown, before, visit-passes, place-in, open-below, on-ends}
 use Rattle.drr.proofs.Sums.{total-none, total-one}
 use Rattle.drr.proofs.Stretches.{View, Stretch, start, quiet}
 use Rattle.drr.proofs.Ranks.{only, only-same, only-other, seen, NoPass, rest, send, close, visit-own, visit-other}
 use Rattle.drr.proofs.Order.{Order}
-use Rattle.drr.proofs.Bounds.{Bounded, due-within, closed-below, not-open, not-place, sound-bounded, sent-bounded}
+use Rattle.drr.proofs.Bounds.{Bounded, charge-within, closed-below, not-open, not-place, sound-bounded, sent-bounded}
 
 -- the lengths that wait in flow i, oldest first
 abbrev pub lengthsIn : Line → ℕ → List ℕ
@@ -54,11 +55,11 @@ module _ (T : Table) {Fit : Line → Type 0} {rank : Line → ℕ → ℕ} (O : 
   --   stays   a flow that was sent bytes is open     took    i's row before is what it was given and its row after
   --   nobody  an idle answer means that nobody waits fit     what the order keeps
   pub record Served (l : Line) (a : Answer) (t : Line) : Type 0 where
-    pub run : 0 < waitingOf l i → Stretch (T .n) (quantumOf T) i (view l) (sentIn (a .numbers)) (view t)
-    pub whole : total (T .n) (sentIn (a .numbers)) ≡ bytesIn (a .numbers)
-    pub back : Bounded T t (sentIn (a .numbers))
-    pub stays : (j : ℕ) → 0 < sentIn (a .numbers) j → (t .opened ≡ true) × (t .place ≡ j)
-    pub took : lengthsIn l i ≡ givenIn (a .numbers) i ++ lengthsIn t i
+    pub run : 0 < waitingOf l i → Stretch (T .n) (quantumOf T) i (view l) (sentIn a) (view t)
+    pub whole : total (T .n) (sentIn a) ≡ bytesIn a
+    pub back : Bounded T t (sentIn a)
+    pub stays : (j : ℕ) → 0 < sentIn a j → (t .opened ≡ true) × (t .place ≡ j)
+    pub took : lengthsIn l i ≡ givenIn a i ++ lengthsIn t i
     pub nobody : a ≡ idle → (j : ℕ) → j < T .n → 0 < waitingOf t j → ⊥
     pub fit : Fit t
 
@@ -145,21 +146,21 @@ module _ (T : Table) {Fit : Line → Type 0} {rank : Line → ℕ → ℕ} (O : 
   unfolding only
   sending m o v =
       record {
-        run = λ w. send (T .n) (quantumOf T) i (m .deficits) (rank m) (rank (sent m p)) p (o .deficits-in) (due m p) (o .ready .1) (O .sends m (o .fit) (o .on) i);
-        whole = total-one (T .n) (only p (due m p)) p (o .in-table) (only-other p (due m p)) ∙ only-same p (due m p);
+        run = λ w. send (T .n) (quantumOf T) i (m .deficits) (rank m) (rank (sent m p)) p (o .deficits-in) (oldestCharge m p) (o .ready .1) (O .sends m (o .fit) (o .on) i);
+        whole = total-one (T .n) (only p (oldestCharge m p)) p (o .in-table) (only-other p (oldestCharge m p)) ∙ only-same p (oldestCharge m p);
         back = sent-bounded T m (o .on) (o .deficits-in) (o .ready .1) (o .own-below) (o .others-below);
         stays = λ j some. stays j (eqb p j) refl some;
         took = ⊎-elim (λ e. rw e (rw (eq-eqb p p refl, getD-set-same (m .counts) p (waitingOf m p - 1) 0 (o .counts-in), getD-set-same (m .rows) p (shiftedOf (rowOf m p)) [] (o .rows-in)) (take-first (rowOf m p) (waitingOf m p) (o .ready .0) (o .count-in))))
             (λ ne. rw (ne-eqb p i (λ d. ne (sym d)), getD-set-other (m .counts) p i (waitingOf m p - 1) 0 ne, getD-set-other (m .rows) p i (shiftedOf (rowOf m p)) [] ne) refl)
             (same? i p);
-        nobody = λ is. absurd (let z = ap (λ (x : Answer). length (x .numbers)) is in omega arith);
+        nobody = λ is. absurd (sent-not-idle is);
         fit = O .fit-sent m (o .fit) (o .on);
       }
     where
       p : ℕ
       p = m .place
 
-      stays : (j : ℕ) (b : Bool) → eqb p j ≡ b → 0 < cond b (due m p) 0 → (m .opened ≡ true) × (p ≡ j)
+      stays : (j : ℕ) (b : Bool) → eqb p j ≡ b → 0 < cond b (oldestCharge m p) 0 → (m .opened ≡ true) × (p ≡ j)
       stays j true e some = (o .on, eqb-true p j e)
       stays j false e some = absurd (omega arith)
 
@@ -178,7 +179,7 @@ module _ (T : Table) {Fit : Line → Type 0} {rank : Line → ℕ → ℕ} (O : 
         rows-in = omega (arith, ok .shape .rows-length);
         count-in = omega (arith, ok .shape .row-length f low, ok .flows f low .used (k .0) .count-most);
         ready = (k .1, enough);
-        own-below = omega (arith, grown T l ok f e, before T l ok f e off, due-within T l ok f (k .0) (k .1));
+        own-below = omega (arith, grown T l ok f e, before T l ok f e off, charge-within T l ok f (k .0) (k .1));
         others-below = λ j q ne. rw (getD-set-other (l .deficits) f j (deficitOf l f + quantumOf T f) 0 ne) (closed-below T l ok j q (not-open l j off));
       }) (v + 1))
   looks-serve (passes {l = l} {f = f} e short r) ok off fit =

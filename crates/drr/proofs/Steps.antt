@@ -12,7 +12,7 @@ use lib.ListN.{length, getD, set, drop, length-set, length-append, length-drop, 
 use lib.Seq.{getD-set-same, getD-set-other, set-set}
 use Rattle.drr.specs.declared.Table.{Table}
 use Rattle.drr.specs.declared.Found.the-variants.{At}
-use Rattle.drr.specs.State.{Line, quantumOf, maximumOf, deficitOf, waitingOf, rowOf, charge, due, withDeficit, withRow, withVisit, shiftedOf}
+use Rattle.drr.specs.State.{Line, quantumOf, maximumOf, deficitOf, waitingOf, rowOf, charge, oldestCharge, withDeficit, withRow, withVisit, shiftedOf}
 use Rattle.drr.specs.Sound.{visited}
 use Rattle.drr.specs.Facts.{Credit, FlowFacts, Flow, Shaped, Sound}
 use Rattle.drr.specs.Arrival.{put}
@@ -151,7 +151,7 @@ module _ (T : Table) (l : Line) (ok : Sound T l) (p : ℕ) (in-table : p < T .n)
     other false g ne = refl
 
     -- no packet sent, no visit open
-    rests : (d : ℕ) → (waitingOf l p ≡ 0 → d ≡ 0) → (0 < waitingOf l p → d < due l p) → Sound T (withVisit (withDeficit l p d) p false)
+    rests : (d : ℕ) → (waitingOf l p ≡ 0 → d ≡ 0) → (0 < waitingOf l p → d < oldestCharge l p) → Sound T (withVisit (withDeficit l p d) p false)
     rests d a b = record {
       shape = record {
         quanta-length = ok .shape .quanta-length;
@@ -204,18 +204,18 @@ module _ (T : Table) (l : Line) (ok : Sound T l) (f : ℕ) (at : next T l ≡ At
     shut on = absurd (apart on off)
 
     -- the deficit before the visit
-    pub before : deficitOf l f < due l f
+    pub before : deficitOf l f < oldestCharge l f
     before =
         ok .flows f (low T l ok f (found .0)) .credit (found .0) .waiting-below (ap (λ (b : Bool). b && eqb (l .place) f) off) (found .1)
 
-    pub visit-passes : deficitOf (openAt T l f) f < due l f → Sound T (closed (openAt T l f))
+    pub visit-passes : deficitOf (openAt T l f) f < oldestCharge l f → Sound T (closed (openAt T l f))
     visit-passes short =
         rests T l ok f (found .0) shut (deficitOf l f + quantumOf T f) (λ z. absurd (omega (arith, found .1))) (λ _. rw grown at short)
 
-    pub visit-sends : due l f ≤ deficitOf (openAt T l f) f → Sound T (sent (openAt T l f) f)
+    pub visit-sends : oldestCharge l f ≤ deficitOf (openAt T l f) f → Sound T (sent (openAt T l f) f)
     visit-sends enough =
-        rw (set-set (l .deficits) f (deficitOf l f + quantumOf T f) (deficitOf (openAt T l f) f - due l f))
-        (serves T l ok f (found .0) shut (found .1) (deficitOf (openAt T l f) f - due l f) (omega (arith, grown, before, enough)))
+        rw (set-set (l .deficits) f (deficitOf l f + quantumOf T f) (deficitOf (openAt T l f) f - oldestCharge l f))
+        (serves T l ok f (found .0) shut (found .1) (deficitOf (openAt T l f) f - oldestCharge l f) (omega (arith, grown, before, enough)))
 
 -- ---- step 1, in an open visit
 module _ (T : Table) (l : Line) (ok : Sound T l) (on : l .opened ≡ true) where
@@ -228,11 +228,11 @@ module _ (T : Table) (l : Line) (ok : Sound T l) (on : l .opened ≡ true) where
 
   pub on-sends : Ready l (l .place) → Sound T (sent l (l .place))
   on-sends r =
-      let z = serves T l ok (l .place) place-in (λ _. refl) (r .0) (deficitOf l (l .place) - due l (l .place)) (omega (arith, open-below)) in
+      let z = serves T l ok (l .place) place-in (λ _. refl) (r .0) (deficitOf l (l .place) - oldestCharge l (l .place)) (omega (arith, open-below)) in
       rw on z
 
   pub on-ends : (Ready l (l .place) → ⊥) → Sound T (closed (emptied l))
   on-ends stuck =
       rests T l ok (l .place) place-in (λ _. refl) _
       (λ z. rw (le-ltb 0 (waitingOf l (l .place)) (omega arith)))
-      (λ z. rw (lt-ltb 0 (waitingOf l (l .place)) z) (⊎-elim (λ lt. lt) (λ le. absurd (stuck (z, le))) (below? (deficitOf l (l .place)) (due l (l .place)))))
+      (λ z. rw (lt-ltb 0 (waitingOf l (l .place)) z) (⊎-elim (λ lt. lt) (λ le. absurd (stuck (z, le))) (below? (deficitOf l (l .place)) (oldestCharge l (l .place)))))

@@ -1,4 +1,5 @@
 -- Document 01 as definitions, in its order. Facts.antt has soundness once more, as facts.
+pub mod Limits
 pub mod State
 pub mod Sound
 pub mod Facts

@@ -11,24 +11,29 @@ use Rattle.drr.specs.State.{Line, freshLine, freshState}
 use Rattle.drr.specs.Facts.{Sound, Ranged}
 use Rattle.drr.specs.Answers.{verdictPaper, reply}
 use Rattle.drr.specs.Figures.{owed}
-use Rattle.drr.specs.Floor.{afterCalls, bytesSent, flowSent, WaitsAtPicks}
+use Rattle.drr.specs.Floor.{lineAfter, afterCalls, bytesSent, flowSent, WaitsAtPicks}
 use Rattle.drr.proofs.Papers.{verdict-one, one-made}
 use Rattle.drr.proofs.Tables.{fresh-sound, made-ranged}
 use Rattle.drr.proofs.Calls.{fresh-state-sound}
-use Rattle.drr.proofs.Demand3.{demand-3}
+use Rattle.drr.proofs.Waiting.{fresh-waits}
+use Rattle.drr.proofs.Demand3.{calls-keep, demand-3}
+use Rattle.runfile.specs.declared.reader.Contents.{Contents}
 use Rattle.runfile.specs.declared.turns.Tally.{Tally}
-use Rattle.runfile.specs.File.{eventCount, eventOffset, flowsIn, eventsIn, fileAnswer, readReply, flowsReply, runAnswer}
-use Rattle.runfile.specs.Run.{Act, due, Timed, bookedIn, lineAfter, callsIn, tableIn, runCalls}
+use Rattle.runfile.specs.File.{eventCount, eventOffset, flowsIn, eventsIn, fileAnswer, fileTable, fileEvents, flowsReply, runAnswer}
+use Rattle.runfile.specs.Run.{Act, free, Timed, bookedIn, callsIn, tableIn, runCalls}
 use Rattle.runfile.specs.Listing.{tally, tallyAfter, endLine, linesOf, ends, ticksOf, lastOf, acceptedTo, sentTo, runListing, filled}
 use Rattle.runfile.proofs.Files.{file-setup, file-sorted}
 use Rattle.runfile.proofs.Going.{events-length}
-use Rattle.runfile.proofs.Runs.{run-timed, run-books, run-only, run-empties, acts-keep}
+use Rattle.runfile.proofs.Runs.{run-timed, run-books, run-only, run-empties}
 use Rattle.runfile.proofs.Counts.{each-one, all-in-turn, listing-is, lines-length, ends-count, last-is}
 
--- no second answer, place or state meets the contract of `reader::read`
-pub one-read : (b : List ℕ) (r t : Made) →
-    reply (verdictPaper (r .answer)) (r .state) ≡ readReply b → reply (verdictPaper (t .answer)) (t .state) ≡ readReply b → r ≡ t
-one-read b = one-made (readReply b)
+-- no second answer, table or place of the events meets the contract of `reader::read`
+pub one-read : (b : List ℕ) (r t : Contents) →
+    (verdictPaper (r .answer) ≡ fileAnswer b) × (r .table ≡ fileTable b) × (r .events ≡ fileEvents b) →
+    (verdictPaper (t .answer) ≡ fileAnswer b) × (t .table ≡ fileTable b) × (t .events ≡ fileEvents b) → r ≡ t
+one-read b r t p q =
+    let a = verdict-one (r .answer) (t .answer) (p .0 ∙ sym (q .0)) in
+    λ i. record { answer = a i; table = (p .1 ∙ sym (q .1)) i; events = (p .2 ∙ sym (q .2)) i }
 
 -- .. and of `reader::read_flows`
 pub one-flows : (b : List ℕ) (r t : Made) →
@@ -52,18 +57,18 @@ module _ (b : List ℕ) (ok : fileAnswer b .refusal ≡ 0) where
   ranged = made-ranged (flowsIn b) (file-setup b ok)
 
   -- its calls are timed as document 01 says, they book every event in the file's order, and no other list of calls does both
-  pub file-timed : Timed T 0 (due 0) (runCalls b) fresh
+  pub file-timed : Timed T 0 (free 0) (runCalls b) fresh
   file-timed = run-timed T ranged (eventsIn b) (file-sorted b ok)
 
   pub file-books : bookedIn (runCalls b) ≡ eventsIn b
   file-books = run-books T ranged (eventsIn b)
 
-  pub file-only : (ks : List Act) → Timed T 0 (due 0) ks fresh → bookedIn ks ≡ eventsIn b → ks ≡ runCalls b
+  pub file-only : (ks : List Act) → Timed T 0 (free 0) ks fresh → bookedIn ks ≡ eventsIn b → ks ≡ runCalls b
   file-only = run-only T ranged (eventsIn b) (file-sorted b ok)
 
   -- the line stays sound, after any calls and so after any of the run's
-  pub file-sound : (ks : List Act) → Sound T (lineAfter T ks fresh)
-  file-sound ks = acts-keep T ks fresh (fresh-sound ranged)
+  pub file-sound : (ks : List Act) → Sound T (lineAfter T fresh (callsIn ks))
+  file-sound ks = calls-keep T fresh (fresh-sound ranged) (callsIn ks)
 
   -- demand 3, in any stretch of calls and so in any of the run's
   pub file-floor : (before stretch : List Act) (i : ℕ) → i < T .n → WaitsAtPicks (afterCalls (freshState T) (callsIn before)) (callsIn stretch) i →
@@ -87,7 +92,7 @@ module _ (b : List ℕ) (ok : fileAnswer b .refusal ≡ 0) where
 
   -- .. and each accepted event its own S line: a flow's packets are sent in the order of its accepted events, each once
   pub file-in-turn : (i : ℕ) → i < T .n → acceptedTo T (runCalls b) fresh i ≡ sentTo T (runCalls b) fresh i
-  file-in-turn i i<n = all-in-turn T i i<n (runCalls b) fresh (fresh-sound ranged) refl (run-empties T ranged (eventsIn b) (file-sorted b ok))
+  file-in-turn i i<n = all-in-turn T i i<n (runCalls b) fresh (fresh-sound ranged) (fresh-waits (T .n)) (run-empties T ranged (eventsIn b) (file-sorted b ok))
 
   pub file-listing : runListing b ≡ linesOf T (runCalls b) fresh ++ endLine count
   file-listing = listing-is T (runCalls b) fresh (tally 0 0 0)

@@ -21,7 +21,7 @@ returns-2 c =
     let k = r .before .before in
     let a = k .before .before .before .args in
     let n = noted-some (a .out .now) (a .y .sent + a .y .refused) (a .tick) (a .flow) (a .len) (a .answer) (k .answer .given .0 .0) (k .answer .given .1)
-    (r .refusal-number .result) _ (r .refusal-number .ensures) (w .wide .ensures) _ (p .put-line .ensures) in
+    (r .refusal-number .result) _ (r .refusal-number .ensures) (w .usize-of-u32 .ensures .0) _ (p .put-line .ensures) in
     (c .after-event2 .ensures ∙ ap (λ (x : ℕ). afterEvent (a .tick) x (a .y)) (n .0), n .1)
 
 pub note-spec : {M : Type 1} → statement M

@@ -1,22 +1,21 @@
--- A loop that copies a list element by element, and its end; a part of a list.
+-- A loop that copies a list element by element, and its end.
 use mathlib.Core.Path.{_≡_, refl, sym, ap, _∙_}
 use mathlib.Core.List.{List, [], _∷_, append-nil, map}
-use mathlib.Core.Logic.{⊎-elim}
-use Prim.Native.Nat.{ℕ, zero, suc, _+_, _≤_, _<_, min}
+use Prim.Native.Nat.{ℕ, zero, suc, _+_, _≤_, _<_}
 use native.Mathlib.Omega.{arith}
 use native.Mathlib.Numerals.{add-one}
 use native.Mathlib.Nat.{zero-add}
-use lib.ListN.{length, getD, set, take, drop, List·getD-map}
+use lib.ListN.{length, getD, set, drop, List·getD-map}
 use lib.Seq.{paste, paste-suc, take-all}
-use Rattle.drr.proofs.Bools.{below?}
 
-pub copy-turn : {A : Type 0} (z s : List A) (k : ℕ) (d : A) → k < length z → k < length s → set (paste z 0 s k) k (getD s k d) ≡ paste z 0 s (k + 1)
+pub copy-turn : {A : Type 0} (z s : List A) (k : ℕ) (d : A) → k < length z → k < length s →
+    set (paste z 0 s k) k (getD s k d) ≡ paste z 0 s (k + 1)
 copy-turn {A} z s k d hz hs =
     ap (λ (i : ℕ). set (paste z 0 s k) i (getD s k d)) (sym (zero-add k))
     ∙ paste-suc z 0 s k d (omega arith) hs
     ∙ ap (λ (i : ℕ). paste z 0 s i) (sym (add-one k))
 
-drop-past : {A : Type 0} (z : List A) (n : ℕ) → length z ≤ n → drop n z ≡ []
+pub drop-past : {A : Type 0} (z : List A) (n : ℕ) → length z ≤ n → drop n z ≡ []
 drop-past [] zero h = refl
 drop-past [] (suc n) h = refl
 drop-past (x ∷ xs) zero h = absurd (omega arith)
@@ -26,17 +25,10 @@ pub copy-end : {A : Type 0} (z s : List A) (n : ℕ) → length z ≡ n → leng
 copy-end z s n hz hs = rw (zero-add n, take-all n s (omega arith), drop-past z n (omega arith)) (append-nil s)
 
 -- the same where each element goes through g
-pub map-turn : {A B : Type 0} (g : A → B) (z : List B) (xs : List A) (k : ℕ) (d : A) (out : List B) → out ≡ paste z 0 (map g xs) k →
+pub map-turn : {A B : Type 0} (g : A → B) (z : List B) (xs : List A) (k : ℕ) (d : A) (out : List B) →
+    out ≡ paste z 0 (map g xs) k →
     k < length z → k < length (map g xs) → set out k (g (getD xs k d)) ≡ paste z 0 (map g xs) (k + 1)
 map-turn {A} {B} g z xs k d out is hz hs =
     ap (λ (o : List B). set o k (g (getD xs k d))) is
     ∙ ap (λ (x : B). set (paste z 0 (map g xs) k) k x) (sym (List·getD-map g xs k d))
     ∙ copy-turn z (map g xs) k (g d) hz hs
-
--- no more than a list has can be taken of it
-pub take-min : {A : Type 0} (l : List A) (n m : ℕ) {k : ℕ} → k ≡ min n m → length l ≡ m → take k l ≡ take n l
-take-min {A} l n m {k} is long =
-    ⊎-elim
-    (λ less. let e : k ≡ n = omega arith in ap (λ (j : ℕ). take j l) e)
-    (λ more. take-all k l (omega arith) ∙ sym (take-all n l (omega arith)))
-    (below? n m)

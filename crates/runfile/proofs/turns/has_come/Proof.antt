@@ -1,7 +1,7 @@
 use native.Mathlib.Omega.{arith}
 use borrow.Author.Tests.{lt-ltb, le-ltb}
-use Rattle.runfile.proofs.turns.is_due.Statement.{statement}
-use Rattle.runfile.proofs.turns.is_due.Tie as tie
+use Rattle.runfile.proofs.turns.has_come.Statement.{statement}
+use Rattle.runfile.proofs.turns.has_come.Tie as tie
 
 returns : tie.Need-returns
 returns c =
@@ -11,8 +11,8 @@ returns c =
 returns-2 : tie.Need-returns-2
 returns-2 c = let a = c .before .before .args in rw (le-ltb (a .at) (a .m) (c .if1 .left))
 
-pub is-due-spec : {M : Type 1} → statement M
-is-due-spec =
+pub has-come-spec : {M : Type 1} → statement M
+has-come-spec =
     tie.close
     (tie.spec
     (λ c. let s = c .before .before in omega (arith, s .pre .1, c .if1 .taken))
