@@ -86,6 +86,7 @@ module _ (b : List ℕ) (ok : fileAnswer b .refusal ≡ 0) where
         arith,
         each-one T (runCalls b) fresh (tally 0 0 0) (fresh-sound ranged),
         run-empties T ranged (eventsIn b) (file-sorted b ok),
+        fresh-waits (T .n),
         ap length file-books,
         events-length (drop (eventOffset b) b) 0 (eventCount b),
       )
