@@ -4,12 +4,22 @@ ghost use mathlib.Core.Path.{_≡_};
 ghost use Rattle.drr.specs.Answers.{numberOf};
 
 // A flow as setup is given it.
+#[repr(C)]
 pub struct FlowRecord {
     pub quantum: u32,
     pub maximum: u32,
 }
 
+// A list of flow records as it is carried: the first `count` of seventeen, one more than a table may
+// have, so that a list too long is seen to be.
+#[repr(C)]
+pub struct FlowList {
+    pub records: [FlowRecord; 17],
+    pub count: usize,
+}
+
 // What setup fixes: the number of flows, and each flow's quantum and maximum.
+#[repr(C)]
 pub struct Table {
     pub n: usize,
     pub quanta: [u32; 16],
@@ -17,11 +27,13 @@ pub struct Table {
 }
 
 // The waiting lengths of one flow, oldest first.
+#[repr(C)]
 pub struct Row {
     pub lengths: [u16; 32],
 }
 
 // What arrivals and picks move.
+#[repr(C)]
 pub struct Line {
     pub deficits: [u32; 16],
     pub counts: [u8; 16],
@@ -30,6 +42,7 @@ pub struct Line {
     pub rows: [Row; 16],
 }
 
+#[repr(C)]
 pub struct State {
     pub table: Table,
     pub line: Line,
