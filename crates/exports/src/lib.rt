@@ -107,7 +107,7 @@ fn verdict_told(v: Verdict) -> [u64; 6]
     [fault.refusal as u64, 1, fault.place as u64, 0, 0, 0]
 }
 
-// Setup of the list.
+// Setup of the first `count` records of the list, or of all seventeen.
 #[no_mangle]
 pub extern "C" fn wikulambag_setup(list: FlowList) -> Replied
     ensures { λ r. ⌜ r ≡ toldReply (setupReply (take (list .count) (list .records))) ⌝ }
