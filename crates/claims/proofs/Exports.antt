@@ -1,24 +1,24 @@
--- The functions for other languages: each meets its contract, and no second content of the lent parts does.
-use mathlib.Core.Path.{_≡_, sym, ap, _∙_}
-use mathlib.Core.List.{List}
-use Prim.Native.Nat.{ℕ}
-use Rattle.drr.specs.declared.Table.{Table}
-use Rattle.drr.specs.declared.Spot.{Spot}
-use Rattle.drr.specs.State.{Line, tableOf, lineOf}
+-- The functions for other languages: each meets its contract, and no second result does.
+-- All contracts but the run's are equations for the result itself.
+use mathlib.Core.Path.{_≡_, sym, _∙_}
+use mathlib.Core.List.{[], _∷_}
+use lib.ListN.{getD}
+use Rattle.drr.specs.Answers.{Answer, answer}
+use Rattle.exports.specs.declared.Fault.{Fault}
 use Rattle.exports.proofs.wikulambag_run.Statement as run
 use Rattle.exports.proofs.wikulambag_run.Met as run-met
-use Rattle.exports.proofs.calls.wikulambag_setup.Statement as setup
-use Rattle.exports.proofs.calls.wikulambag_setup.Met as setup-met
-use Rattle.exports.proofs.calls.wikulambag_sound.Statement as sound
-use Rattle.exports.proofs.calls.wikulambag_sound.Met as sound-met
-use Rattle.exports.proofs.calls.wikulambag_arrival.Statement as arrival
-use Rattle.exports.proofs.calls.wikulambag_arrival.Met as arrival-met
-use Rattle.exports.proofs.calls.wikulambag_pick.Statement as pick
-use Rattle.exports.proofs.calls.wikulambag_pick.Met as pick-met
-use Rattle.exports.proofs.calls.wikulambag_owed.Statement as owed
-use Rattle.exports.proofs.calls.wikulambag_owed.Met as owed-met
-use Rattle.exports.proofs.calls.wikulambag_wait.Statement as wait
-use Rattle.exports.proofs.calls.wikulambag_wait.Met as wait-met
+use Rattle.exports.proofs.wikulambag_setup.Statement as setup
+use Rattle.exports.proofs.wikulambag_setup.Met as setup-met
+use Rattle.exports.proofs.wikulambag_sound.Statement as sound
+use Rattle.exports.proofs.wikulambag_sound.Met as sound-met
+use Rattle.exports.proofs.wikulambag_arrival.Statement as arrival
+use Rattle.exports.proofs.wikulambag_arrival.Met as arrival-met
+use Rattle.exports.proofs.wikulambag_pick.Statement as pick
+use Rattle.exports.proofs.wikulambag_pick.Met as pick-met
+use Rattle.exports.proofs.wikulambag_owed.Statement as owed
+use Rattle.exports.proofs.wikulambag_owed.Met as owed-met
+use Rattle.exports.proofs.wikulambag_wait.Statement as wait
+use Rattle.exports.proofs.wikulambag_wait.Met as wait-met
 
 -- ---- each returns from every call, and then meets the contract in its source, which asks nothing of the caller
 pub run-exported : {M : Type 1} → run.statement M
@@ -42,16 +42,7 @@ owed-exported = owed-met.met
 pub wait-exported : {M : Type 1} → wait.statement M
 wait-exported = wait-met.met
 
--- ---- a contract gives the line, and of setup the table, that the lent parts make at exit: their content is then settled
-pub one-lent-line : (l : Line) (counts counts' deficits deficits' : List ℕ) (rows rows' : List (List ℕ)) (spot spot' : Spot) →
-    lineOf counts deficits rows spot ≡ l → lineOf counts' deficits' rows' spot' ≡ l →
-    (counts ≡ counts') × (deficits ≡ deficits') × (rows ≡ rows') × (spot .place ≡ spot' .place) × (spot .opened ≡ spot' .opened)
-one-lent-line l counts counts' deficits deficits' rows rows' spot spot' p q =
-    let e = p ∙ sym q in
-    (ap (λ (z : Line). z .counts) e, ap (λ (z : Line). z .deficits) e, ap (λ (z : Line). z .rows) e, ap (λ (z : Line). z .place) e, ap (λ (z : Line). z .opened) e)
-
-pub one-lent-table : (T : Table) (n n' : ℕ) (quanta quanta' maxima maxima' : List ℕ) →
-    tableOf n quanta maxima ≡ T → tableOf n' quanta' maxima' ≡ T → (n ≡ n') × (quanta ≡ quanta') × (maxima ≡ maxima')
-one-lent-table T n n' quanta quanta' maxima maxima' p q =
-    let e = p ∙ sym q in
-    (ap (λ (z : Table). z .n) e, ap (λ (z : Table). z .quanta) e, ap (λ (z : Table). z .maxima) e)
+-- ---- the run's gives the paper answer of the refusal and its place, which settles both
+pub one-fault : (a : Answer) (r t : Fault) →
+    answer (r .refusal) (r .place ∷ []) ≡ a → answer (t .refusal) (t .place ∷ []) ≡ a → r ≡ t
+one-fault a r t p q = let e = p ∙ sym q in λ i. record { refusal = e i .refusal; place = getD (e i .numbers) 0 0 }

@@ -3,8 +3,8 @@ use borrow.Author.Needs.{needs}
 use Rattle.drr.specs.declared.PickAnswer.{PickAnswer}
 use Rattle.drr.specs.Answers.{pickPaper}
 use Rattle.exports.specs.Told.{told}
-use Rattle.exports.proofs.calls.pick_told.Statement.{statement}
-use Rattle.exports.proofs.calls.pick_told.Tie as tie
+use Rattle.exports.proofs.pick_told.Statement.{statement}
+use Rattle.exports.proofs.pick_told.Tie as tie
 
 returns : tie.Need-returns
 returns c = ap (λ (a : PickAnswer). told (pickPaper a)) (sym (c .enum-told .given .1))

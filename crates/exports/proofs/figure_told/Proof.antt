@@ -3,8 +3,8 @@ use borrow.Author.Needs.{needs}
 use Rattle.figures.specs.declared.Figure.{Figure}
 use Rattle.figures.specs.Answers.{figurePaper}
 use Rattle.exports.specs.Told.{told}
-use Rattle.exports.proofs.calls.figure_told.Statement.{statement}
-use Rattle.exports.proofs.calls.figure_told.Tie as tie
+use Rattle.exports.proofs.figure_told.Statement.{statement}
+use Rattle.exports.proofs.figure_told.Tie as tie
 
 returns : tie.Need-returns
 returns c = ap (λ (a : Figure). told (figurePaper a)) (sym (c .before .a .given .1))

@@ -3,8 +3,8 @@ use borrow.Author.Needs.{needs}
 use Rattle.drr.specs.declared.ArrivalAnswer.{ArrivalAnswer}
 use Rattle.drr.specs.Answers.{arrivalPaper}
 use Rattle.exports.specs.Told.{told}
-use Rattle.exports.proofs.calls.arrival_told.Statement.{statement}
-use Rattle.exports.proofs.calls.arrival_told.Tie as tie
+use Rattle.exports.proofs.arrival_told.Statement.{statement}
+use Rattle.exports.proofs.arrival_told.Tie as tie
 
 returns : tie.Need-returns
 returns c = ap (λ (a : ArrivalAnswer). told (arrivalPaper a)) (sym (c .enum-told .given .1))
