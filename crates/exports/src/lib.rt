@@ -6,14 +6,15 @@ use drr::FlowList;
 use drr::PickAnswer;
 use drr::Refusal;
 use drr::State;
+use drr::Terms;
 use drr::Verdict;
 use figures::Figure;
 ghost use mathlib.Core.Path.{_≡_};
 ghost use mathlib.Core.List.{[], _∷_};
-ghost use lib.ListN.{length, take};
+ghost use lib.ListN.{length};
 ghost use Rattle.drr.specs.Sound.{soundState};
 ghost use Rattle.drr.specs.Answers.{numberOf, answer, verdictPaper, pickPaper, arrivalPaper};
-ghost use Rattle.drr.specs.Setup.{setupReply};
+ghost use Rattle.drr.specs.Setup.{setupReply, recordsIn};
 ghost use Rattle.drr.specs.Arrival.{arrivalReply};
 ghost use Rattle.drr.specs.Computed.{pickReply};
 ghost use Rattle.figures.specs.Answers.{figurePaper, owedAnswer, waitAnswer};
@@ -110,10 +111,9 @@ fn verdict_told(v: Verdict) -> [u64; 6]
 // Setup of the first `count` records of the list, or of all seventeen.
 #[no_mangle]
 pub extern "C" fn wikulambag_setup(list: FlowList) -> Replied
-    ensures { λ r. ⌜ r ≡ toldReply (setupReply (take (list .count) (list .records))) ⌝ }
+    ensures { λ r. ⌜ r ≡ toldReply (setupReply (recordsIn list)) ⌝ }
 {
-    let records = list.records;
-    let made = scheduler::flows::setup_first(records, list.count);
+    let made = scheduler::flows::setup_of(list, Terms {});
     let answer = made.answer;
     let state = made.state;
     let told = verdict_told(answer);

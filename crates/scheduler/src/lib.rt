@@ -25,7 +25,7 @@ ghost use Rattle.drr.specs.Arrival.{arrivalOf, arrivalReply};
 ghost use Rattle.drr.specs.Computed.{pickOf, pickReply};
 
 // The rows' lengths, as an array of arrays.
-pub fn cells_of(rows: [Row; 16]) -> [[u16; 32]; 16]
+fn cells_of(rows: [Row; 16]) -> [[u16; 32]; 16]
     ensures { λ r. ⌜ r ≡ cellsIn rows ⌝ }
 {
     let mut out = [[0u16; 32]; 16];
@@ -40,7 +40,7 @@ pub fn cells_of(rows: [Row; 16]) -> [[u16; 32]; 16]
 }
 
 // The rows made of their lengths.
-pub fn rows_of(cells: [[u16; 32]; 16]) -> [Row; 16]
+fn rows_of(cells: [[u16; 32]; 16]) -> [Row; 16]
     ensures { λ r. ⌜ r ≡ rowsFrom cells ⌝ }
 {
     let none = Row {
