@@ -47,9 +47,11 @@ setup-refused xs some =
 module _ (s : State) (unsound : Answer) (o : Outcome) where
   pub call-sound : SoundState s → Sound (s .table) (o .line) → SoundState (guarded s unsound o .state)
   call-sound ok next =
-      subst⁻¹ (λ (z : Reply). SoundState (z .state)) (guarded-sound s unsound o (of-sound (s .table) (lineIn (s .line)) ok)) (whole-sound (s .table) (o .line) next)
+      subst⁻¹ (λ (z : Reply). SoundState (z .state)) (guarded-sound s unsound o (of-sound (s .table) (lineIn (s .line)) ok))
+      (whole-sound (s .table) (o .line) next)
 
-  pub call-hands-back : ((o .answer .refusal ≡ 0 → ⊥) → o .line ≡ lineIn (s .line)) → (guarded s unsound o .answer .refusal ≡ 0 → ⊥) → guarded s unsound o .state ≡ s
+  pub call-hands-back : ((o .answer .refusal ≡ 0 → ⊥) → o .line ≡ lineIn (s .line)) → (guarded s unsound o .answer .refusal ≡ 0 → ⊥) →
+      guarded s unsound o .state ≡ s
   unfolding guarded
   call-hands-back same =
       by-test (λ (z : Reply). (z .answer .refusal ≡ 0 → ⊥) → z .state ≡ s) (soundState s)
@@ -90,10 +92,12 @@ fresh-idle {T} r =
     let none = first-empty (T .n) (l .counts) (T .n) (l .place) (zero-at 16) in
     guarded-sound (freshState T) (pickRefused 8) _ (of-sound T _ (fresh-state-sound r))
     ∙ ap (λ (k : Line). reply (pickOf T k .answer) (stateFrom T (pickOf T k .line))) (line-back T l)
-    ∙ ap (λ (o : Outcome). reply (o .answer) (stateFrom T (o .line))) (sym (pick-only T l (fresh-sound r) idle l (starts refl (idles none))))
+    ∙ ap (λ (o : Outcome). reply (o .answer) (stateFrom T (o .line)))
+    (sym (pick-only T l (fresh-sound r) idle l (starts refl (idles none))))
 
 -- ---- a second idle pick
-pub idle-still : (s : State) → ShapedState s → pickReply s .answer ≡ idle → pickReply (pickReply s .state) ≡ reply idle (pickReply s .state)
+pub idle-still : (s : State) → ShapedState s → pickReply s .answer ≡ idle →
+    pickReply (pickReply s .state) ≡ reply idle (pickReply s .state)
 idle-still s shape is = ⊎-elim
     (λ e. still (sound-is T l shape e) (guarded-sound s (pickRefused 8) (pickOf T l) e))
     (λ e. let z = sym is ∙ ap (λ (z : Reply). z .answer) (guarded-not s (pickRefused 8) (pickOf T l) e) in
@@ -106,7 +110,8 @@ idle-still s shape is = ⊎-elim
     l : Line
     l = lineIn (s .line)
 
-    still : Sound T l → pickReply s ≡ reply (pickOf T l .answer) (stateFrom T (pickOf T l .line)) → pickReply (pickReply s .state) ≡ reply idle (pickReply s .state)
+    still : Sound T l → pickReply s ≡ reply (pickOf T l .answer) (stateFrom T (pickOf T l .line)) →
+        pickReply (pickReply s .state) ≡ reply idle (pickReply s .state)
     still ok e =
         let m = pickOf T l .line in
         let idled : pickOf T l .answer ≡ idle = (sym (ap (λ (z : Reply). z .answer) e) ∙ is) in

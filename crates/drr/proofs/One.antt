@@ -28,12 +28,15 @@ never : (o : Found) (f : ℕ) → o ≡ At f → o ≡ Nothing → ⊥
 never o f p q = let z : _≡_ {A = ℕ} 0 1 = cc in omega arith
 
 -- one flow cannot be sent from and be passed by
-never-both : (T : Table) (l : Line) (f g : ℕ) → next T l ≡ At f → next T l ≡ At g → oldestCharge l f ≤ deficitOf (openAt T l f) f → deficitOf (openAt T l g) g < oldestCharge l g → ⊥
+never-both : (T : Table) (l : Line) (f g : ℕ) → next T l ≡ At f → next T l ≡ At g → oldestCharge l f ≤ deficitOf (openAt T l f) f →
+    deficitOf (openAt T l g) g < oldestCharge l g → ⊥
 never-both T l f g p q enough short =
-    let z : deficitOf (openAt T l f) f < oldestCharge l f = subst (λ (x : ℕ). deficitOf (openAt T l x) x < oldestCharge l x) (same-flow (next T l) g f q p) short in
+    let z : deficitOf (openAt T l f) f < oldestCharge l f = subst (λ (x : ℕ). deficitOf (openAt T l x) x < oldestCharge l x)
+    (same-flow (next T l) g f q p) short in
     omega arith
 
-pub looks-one : {T : Table} {v : ℕ} {l : Line} {a : Answer} {t : Line} {b : Answer} {u : Line} → Looks T v l a t → Looks T v l b u → (a ≡ b) × (t ≡ u)
+pub looks-one : {T : Table} {v : ℕ} {l : Line} {a : Answer} {t : Line} {b : Answer} {u : Line} → Looks T v l a t → Looks T v l b u →
+    (a ≡ b) × (t ≡ u)
 looks-one {T} (idles p) (idles q) = (refl, refl)
 looks-one {T} (idles p) (sends q r) = absurd (never _ _ q p)
 looks-one {T} (idles p) (passes q r k) = absurd (never _ _ q p)
@@ -64,8 +67,10 @@ Is T v l r = Looks T v l (r .answer) (r .line)
 
 -- one turn, whatever a return to step 2 gives, as long as that is right with one visit more and a smaller measure
 module _ (T : Table) (v : ℕ) (l : Line) (ok : Sound T l) (off : l .opened ≡ false) (goto2 : Line → Outcome)
-    (on : (t : Line) → Sound T t → t .opened ≡ false → mostMaxima - sumOf (t .deficits) < mostMaxima - sumOf (l .deficits) → Is T (v + 1) t (goto2 t)) where
-  served-is : (f : ℕ) → next T l ≡ At f → (b : Bool) → leb (oldestCharge l f) (deficitOf (openAt T l f) f) ≡ b → Is T v l (serve b (v + 1) (openAt T l f) f goto2)
+    (on : (t : Line) → Sound T t → t .opened ≡ false → mostMaxima - sumOf (t .deficits) < mostMaxima - sumOf (l .deficits) →
+    Is T (v + 1) t (goto2 t)) where
+  served-is : (f : ℕ) → next T l ≡ At f → (b : Bool) → leb (oldestCharge l f) (deficitOf (openAt T l f) f) ≡ b →
+      Is T v l (serve b (v + 1) (openAt T l f) f goto2)
   served-is f e true q = sends e (leb-true _ _ q)
   served-is f e false q =
       let short = leb-false (oldestCharge l f) (deficitOf (openAt T l f) f) q in
@@ -77,7 +82,8 @@ module _ (T : Table) (v : ℕ) (l : Line) (ok : Sound T l) (off : l .opened ≡ 
   turned-is (At f) e = served-is f e (leb (oldestCharge l f) (deficitOf (openAt T l f) f)) refl
 
 -- the computation never runs short: its count is above the measure
-looks-for : (T : Table) (k v : ℕ) (l : Line) → Sound T l → l .opened ≡ false → mostMaxima - sumOf (l .deficits) < k → Is T v l (lookFor T k v l)
+looks-for : (T : Table) (k v : ℕ) (l : Line) → Sound T l → l .opened ≡ false → mostMaxima - sumOf (l .deficits) < k →
+    Is T v l (lookFor T k v l)
 unfolding lookFor
 looks-for T zero v l ok off h = absurd (omega arith)
 looks-for T (suc k) v l ok off h =
@@ -89,7 +95,8 @@ look-is T v l ok off = looks-for T enough v l ok off (omega arith)
 -- the function without its count
 pub look-unfolds : (T : Table) (v : ℕ) (l : Line) → Sound T l → l .opened ≡ false → look T v l ≡ turn T v l (next T l) (look T (v + 1))
 look-unfolds T v l ok off =
-    let z = looks-one (look-is T v l ok off) (turned-is T v l ok off (look T (v + 1)) (λ t ok' off' less. look-is T (v + 1) t ok' off') (next T l) refl) in
+    let z = looks-one (look-is T v l ok off)
+    (turned-is T v l ok off (look T (v + 1)) (λ t ok' off' less. look-is T (v + 1) t ok' off') (next T l) refl) in
     λ i. record { answer = z .0 i; line = z .1 i }
 
 -- on a sound line there is an answer, the function's ..
@@ -102,7 +109,8 @@ pick-is T l ok = at-open (l .opened) refl
         ends : (Ready l (l .place) → ⊥) → Picks T l (carryOn T false l .answer) (carryOn T false l .line)
         ends stuck = closes on stuck (look-is T 0 (closed (emptied l)) (on-ends T l ok on stuck) refl)
 
-        on-test : (w : Bool) → ltb 0 (waitingOf l (l .place)) ≡ w → (e : Bool) → leb (oldestCharge l (l .place)) (deficitOf l (l .place)) ≡ e →
+        on-test : (w : Bool) → ltb 0 (waitingOf l (l .place)) ≡ w → (e : Bool) →
+            leb (oldestCharge l (l .place)) (deficitOf l (l .place)) ≡ e →
             Picks T l (carryOn T (w && e) l .answer) (carryOn T (w && e) l .line)
         on-test true p true q = goes-on on (ltb-true _ _ p, leb-true _ _ q)
         on-test true p false q = ends (λ r. omega (arith, r .1, leb-false (oldestCharge l (l .place)) (deficitOf l (l .place)) q))

@@ -37,9 +37,18 @@ module _ (T : Table) (i : ℕ) (i<n : i < T .n) where
 
     put-adds : f < T .n → waitingOf l f < 32 → lengthsIn (put l f len) i ≡ lengthsIn l i ++ addedTo 0 f len i
     put-adds in-table room = ⊎-elim
-        (λ e. rw e (rw (eq-eqb f f refl, getD-set-same (l .counts) f (waitingOf l f + 1) 0 (omega (arith, ok .shape .counts-length, inside)), getD-set-same (l .rows) f (set (rowOf l f) (waitingOf l f) len) [] (omega (arith, ok .shape .rows-length, inside)))
-        (ap (λ (k : ℕ). take k (set (rowOf l f) (waitingOf l f) len)) next ∙ take-set (rowOf l f) (waitingOf l f) len (omega (arith, ok .shape .row-length f inside)))))
-        (λ ne. rw (ne-eqb f i (λ d. ne (sym d)), getD-set-other (l .counts) f i (waitingOf l f + 1) 0 ne, getD-set-other (l .rows) f i (set (rowOf l f) (waitingOf l f) len) [] ne) (sym (append-nil (lengthsIn l i))))
+        (λ e. rw e (rw (
+          eq-eqb f f refl,
+          getD-set-same (l .counts) f (waitingOf l f + 1) 0 (omega (arith, ok .shape .counts-length, inside)),
+          getD-set-same (l .rows) f (set (rowOf l f) (waitingOf l f) len) [] (omega (arith, ok .shape .rows-length, inside)),
+        )
+        (ap (λ (k : ℕ). take k (set (rowOf l f) (waitingOf l f) len)) next
+        ∙ take-set (rowOf l f) (waitingOf l f) len (omega (arith, ok .shape .row-length f inside)))))
+        (λ ne. rw (
+          ne-eqb f i (λ d. ne (sym d)),
+          getD-set-other (l .counts) f i (waitingOf l f + 1) 0 ne,
+          getD-set-other (l .rows) f i (set (rowOf l f) (waitingOf l f) len) [] ne,
+        ) (sym (append-nil (lengthsIn l i))))
         (same? i f)
       where
         inside : f < 16
@@ -52,7 +61,8 @@ module _ (T : Table) (i : ℕ) (i<n : i < T .n) where
     unfolding arrivalOf
     arrival-adds =
         by-test P (leb (T .n) f) (λ _. none) (λ a. by-test P (eqb len 0) (λ _. none) (λ _.
-        by-test P (ltb (maximumOf T f) len) (λ _. none) (λ _. by-test P (leb 32 (waitingOf l f)) (λ _. none) (λ d. put-adds (leb-false (T .n) f a) (leb-false 32 (waitingOf l f) d)))))
+        by-test P (ltb (maximumOf T f) len) (λ _. none)
+        (λ _. by-test P (leb 32 (waitingOf l f)) (λ _. none) (λ d. put-adds (leb-false (T .n) f a) (leb-false 32 (waitingOf l f) d)))))
       where
         none : lengthsIn l i ≡ lengthsIn l i ++ []
         none = sym (append-nil (lengthsIn l i))

@@ -25,7 +25,8 @@ module _ (F : Field) where
   array-long : (n : ℕ) (xs : List (F .Value)) (vs : List Val) → Is (array-field F n .row) (map (F .into) xs) vs → length xs ≡ n
   array-long n xs vs g = sym (length-map xs (F .into)) ∙ g .1 .0 .1
 
-  each-at : (P : F .Value → Type 0) → ((x : F .Value) (vs : List Val) → Is (F .row) (F .into x) vs → P x) → (xs : List (F .Value)) (us : List Val) →
+  each-at : (P : F .Value → Type 0) → ((x : F .Value) (vs : List Val) → Is (F .row) (F .into x) vs → P x) →
+      (xs : List (F .Value)) (us : List Val) →
       shadow (each (F .row .Denot) (F .row .own) (map (F .into) xs) us) → (d : F .Value) (i : ℕ) → i < length xs → P (getD xs i d)
   each-at P h [] us g d i l = absurd (not-suc-le-zero l)
   each-at P h (x ∷ xs) [] g d i l = absurd g
@@ -53,5 +54,6 @@ shaped s vs g =
       rows-length = length-map (s .line .rows) lengthsOf ∙ long;
       row-length = λ f low.
           ap length (List·getD-map lengthsOf (s .line .rows) f (rowFrom []))
-          ∙ each-at row.the-field (λ (x : Row). length (x .lengths) ≡ 32) row-long (s .line .rows) (r .0) (r .1 .1) (rowFrom []) f (omega arith);
+          ∙ each-at row.the-field (λ (x : Row). length (x .lengths) ≡ 32) row-long (s .line .rows) (r .0) (r .1 .1) (rowFrom []) f
+          (omega arith);
     }

@@ -62,12 +62,16 @@ module _ (s : State) (unsound : Answer) (o : Outcome) (r : Bool) (told : r ≡ s
   unfolding guarded
   refuses bad = rw (refuted told bad)
 
-  pub answers : not r ≡ false → (a : Answer) (l : StoredLine) → outcome a (lineIn l) ≡ o → reply a (record { table = s .table; line = l }) ≡ guarded s unsound o
+  pub answers : not r ≡ false → (a : Answer) (l : StoredLine) → outcome a (lineIn l) ≡ o →
+      reply a (record { table = s .table; line = l }) ≡ guarded s unsound o
   unfolding guarded
-  answers fine a l e = rw (passed told fine) (ap (λ (t : State). reply a t) (sym (state-back (s .table) l)) ∙ ap (λ (z : Outcome). reply (z .answer) (stateFrom (s .table) (z .line))) e)
+  answers fine a l e =
+      rw (passed told fine) (ap (λ (t : State). reply a t) (sym (state-back (s .table) l))
+      ∙ ap (λ (z : Outcome). reply (z .answer) (stateFrom (s .table) (z .line))) e)
 
 -- a call on a sound state, and on another
-pub guarded-sound : (s : State) (unsound : Answer) (o : Outcome) → soundState s ≡ true → guarded s unsound o ≡ reply (o .answer) (stateFrom (s .table) (o .line))
+pub guarded-sound : (s : State) (unsound : Answer) (o : Outcome) → soundState s ≡ true →
+    guarded s unsound o ≡ reply (o .answer) (stateFrom (s .table) (o .line))
 unfolding guarded
 guarded-sound s unsound o e = rw e
 

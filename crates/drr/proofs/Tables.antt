@@ -154,4 +154,5 @@ made-ranged xs e = go (eqb (length xs) 0 || ltb mostFlows (length xs)) refl e
 -- the table that setup gives, refused or not
 pub setup-ranged : (xs : List FlowRecord) → Ranged (setupTable xs)
 unfolding setupTable
-setup-ranged xs = by-test Ranged (eqb (setupAnswer xs .refusal) 0) (λ e. made-ranged xs (eqb-true (setupAnswer xs .refusal) 0 e)) (λ _. no-flows-ranged)
+setup-ranged xs = by-test Ranged (eqb (setupAnswer xs .refusal) 0) (λ e. made-ranged xs (eqb-true (setupAnswer xs .refusal) 0 e))
+    (λ _. no-flows-ranged)

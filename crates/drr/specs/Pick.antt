@@ -8,7 +8,8 @@ use lib.ListN.{getD}
 use Rattle.drr.specs.declared.Table.{Table}
 use Rattle.drr.specs.declared.Found.{Found}
 use Rattle.drr.specs.declared.Found.the-variants.{At, Nothing}
-use Rattle.drr.specs.State.{Line, quantumOf, deficitOf, waitingOf, rowOf, oldest, oldestCharge, withDeficit, withRow, withVisit, shiftedOf}
+use Rattle.drr.specs.State.{Line, quantumOf, deficitOf, waitingOf, rowOf, oldest, oldestCharge, withDeficit, withRow, withVisit}
+use Rattle.drr.specs.State.{shiftedOf}
 use Rattle.drr.specs.Answers.{Answer, idle, sentAs}
 
 -- the flow after f, round a table of n
