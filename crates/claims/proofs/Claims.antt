@@ -78,15 +78,15 @@ use Rattle.text.proofs.word_of.Met as word-of-met
 use Rattle.figures.specs.declared.Figure.{Figure}
 use Rattle.figures.specs.Answers.{figurePaper, owedAnswer, waitAnswer, lagAnswer}
 use Rattle.figures.proofs.Claims as figure-claims
-use Rattle.figures.proofs.Vectors.{Every, rows, p1-to-p12}
+use Rattle.figures.proofs.Vectors.{Every, marked, p1-to-p12}
 use Rattle.figures.proofs.owed.Statement as owed-says
 use Rattle.figures.proofs.owed.Met as owed-met
 use Rattle.figures.proofs.wait.Statement as wait-says
 use Rattle.figures.proofs.wait.Met as wait-met
 use Rattle.figures.proofs.lag.Statement as lag-says
 use Rattle.figures.proofs.lag.Met as lag-met
-use Rattle.figures.proofs.row.Statement as row-says
-use Rattle.figures.proofs.row.Met as row-met
+use Rattle.figures.proofs.all_figures.Statement as all-figures-says
+use Rattle.figures.proofs.all_figures.Met as all-figures-met
 use Rattle.claims.proofs.Shown.{shown}
 
 -- ---- DEMANDS 1 AND 2, the calls: each takes any numbers and any state, ends, and answers as its definition says.
@@ -121,8 +121,8 @@ wait-meets = wait-met.met
 pub lag-meets : {M : Type 1} → lag-says.statement M
 lag-meets = lag-met.met
 
-pub row-meets : {M : Type 1} → row-says.statement M
-row-meets = row-met.met
+pub all-figures-meets : {M : Type 1} → all-figures-says.statement M
+all-figures-meets = all-figures-met.met
 
 -- any bytes at all, and any lent list
 pub read-meets : {M : Type 1} → read-says.statement M
@@ -277,8 +277,8 @@ wait-is-least = figures.wait-least
 pub one-flow : (T : Table) → T .n ≡ 1 → 0 < quantumOf T 0 → (lag T 0 ≡ 0) × ((S : ℕ) → owed T 0 S ≡ S)
 one-flow T one some = (figures.one-flow-lag T one some, figures.one-flow-owed T one some)
 
--- ---- document 01's P1 to P12: the table `rows`, in crates/figures/proofs/Vectors.antt, and that every row of it holds
-pub document-table : Every rows
+-- ---- document 01's P1 to P12: the table `marked`, in crates/figures/proofs/Vectors.antt, and that every one of them holds
+pub document-table : Every marked
 document-table = p1-to-p12
 
 -- ---- DEMANDS 1 AND 2, the run: one answer, one state, one content of the lent list

@@ -69,7 +69,7 @@ fn text_of(s: State, flow: usize, sizes: &[u32], buf: &mut [u8]) -> usize
     ensures { λ r. ⌜ Counts r (now (buf .exit)) ⌝ }
 {
     let mut list = [0u64; 21];
-    let n = figures::row(s, flow, sizes, &mut list);
+    let n = figures::all_figures(s, flow, sizes, &mut list);
     text::row_text(&list[..n], buf)
 }
 

@@ -7,10 +7,10 @@ use Rattle.text.proofs.Texts.{counted}
 use Rattle.drrfigures.proofs.text_of.Statement.{statement}
 use Rattle.drrfigures.proofs.text_of.Tie as tie
 
-listed : (r : tie.After-row) → Counts (r .row .result) (r .row .last .1 .1 .1 .0)
+listed : (r : tie.After-all-figures) → Counts (r .all-figures .result) (r .all-figures .last .1 .1 .1 .0)
 listed r =
     let a = r .before .before .before .before .args in
-    counted (figures.rowWithin (a .s) (a .flow) (a .sizes .now) 21) (replicate 21 0) _ _ (r .row .ensures .0) (r .row .ensures .1)
+    counted (figures.figuresWithin (a .s) (a .flow) (a .sizes .now) 21) (replicate 21 0) _ _ (r .all-figures .ensures .0) (r .all-figures .ensures .1)
 
 returns : tie.Need-returns
 returns c =
