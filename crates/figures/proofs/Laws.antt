@@ -1,4 +1,4 @@
--- The terms of a flow's figures and how far they go, the figures from its terms, and what a figure learns of its guard.
+-- The measures of a flow's figures and how far they go, the figures from its measures, and what a figure learns of its guard.
 use mathlib.Core.Path.{_≡_, sym, ap, _∙_, subst⁻¹}
 use Prim.Native.Nat.{ℕ, _+_, _*_, _-_, _/_, _<_}
 use native.Mathlib.Nat.{add-div-right}
@@ -6,6 +6,7 @@ use native.Mathlib.Omega.{arith}
 use Rattle.drr.specs.declared.Refusal.{Refusal}
 use Rattle.drr.specs.declared.Table.{Table}
 use Rattle.drr.specs.declared.State.{State}
+use Rattle.drr.specs.Limits.{mostQuantum, mostMaximum}
 use Rattle.drr.specs.State.{quantumOf, maximumOf}
 use Rattle.drr.specs.Answers.{Answer, numberOf}
 use Rattle.drr.specs.Figures.{allQuanta, allMaxima, lag, owed, wait}
@@ -13,15 +14,15 @@ use Rattle.drr.proofs.Sums.{total-at, total-most}
 use Rattle.drr.proofs.Figures.{quanta-some, owed-formula, wait-formula}
 use Rattle.figures.specs.declared.Guard.{Guard}
 use Rattle.figures.specs.declared.Guard.the-variants.{Passed, Refused}
-use Rattle.figures.specs.declared.Terms.{Terms}
+use Rattle.figures.specs.declared.Measures.{Measures}
 use Rattle.figures.specs.Answers.{figureRefused, guardPaper, askedAnswer}
-use Rattle.figures.specs.Needs.{Known, termsOf, Limited, lagFrom}
+use Rattle.figures.specs.Needs.{Known, measuresOf, Limited, lagFrom}
 
-abbrev terms : ℕ → ℕ → ℕ → ℕ → Terms
-terms Q l F L = record { quantum = Q; maximum = l; quanta = F; maxima = L }
+abbrev measures : ℕ → ℕ → ℕ → ℕ → Measures
+measures Q l F L = record { quantum = Q; maximum = l; quanta = F; maxima = L }
 
 module _ {T : Table} {i : ℕ} (k : Known T i) where
-  limited : Limited (termsOf T i)
+  limited : Limited (measuresOf T i)
   limited =
       let r = k .ranged in
       let low = k .below in
@@ -31,30 +32,30 @@ module _ {T : Table} {i : ℕ} (k : Known T i) where
         maximum-most = r .maximum-in i low .1;
         quantum-in = total-at (T .n) (quantumOf T) i low;
         maximum-in = total-at (T .n) (maximumOf T) i low;
-        quanta-most = omega (arith, r .flows-few, total-most (T .n) (quantumOf T) 65535 (λ f h. r .quantum-in f h .1));
-        maxima-most = omega (arith, r .flows-few, total-most (T .n) (maximumOf T) 9216 (λ f h. r .maximum-in f h .1));
+        quanta-most = omega (arith, r .flows-few, total-most (T .n) (quantumOf T) mostQuantum (λ f h. r .quantum-in f h .1));
+        maxima-most = omega (arith, r .flows-few, total-most (T .n) (maximumOf T) mostMaximum (λ f h. r .maximum-in f h .1));
       }
 
-  -- the terms as the code reads them of the table
-  pub read-terms : {Q l F L : ℕ} → Q ≡ quantumOf T i → l ≡ maximumOf T i → F ≡ allQuanta T → L ≡ allMaxima T →
-      (terms Q l F L ≡ termsOf T i) × Limited (terms Q l F L)
-  read-terms {Q} {l} {F} {L} q m f e =
-      let same : terms Q l F L ≡ termsOf T i = λ j. terms (q j) (m j) (f j) (e j) in
+  -- the measures as the code reads them of the table
+  pub read-measures : {Q l F L : ℕ} → Q ≡ quantumOf T i → l ≡ maximumOf T i → F ≡ allQuanta T → L ≡ allMaxima T →
+      (measures Q l F L ≡ measuresOf T i) × Limited (measures Q l F L)
+  read-measures {Q} {l} {F} {L} q m f e =
+      let same : measures Q l F L ≡ measuresOf T i = λ j. measures (q j) (m j) (f j) (e j) in
       (same, subst⁻¹ Limited same limited)
 
   some : 0 < allQuanta T
   some = quanta-some T i (k .below) (k .ranged .quantum-in i (k .below) .0)
 
-  -- each figure as the code computes it, of terms that are the flow's
-  module _ {t : Terms} (are : t ≡ termsOf T i) where
+  -- each figure as the code computes it, of measures that are the flow's
+  module _ {t : Measures} (are : t ≡ measuresOf T i) where
     pub owed-from : (S : ℕ) → (t .quantum * S - lagFrom t + (t .quanta - 1)) / t .quanta ≡ owed T i S
-    owed-from S = ap (λ (x : Terms). (x .quantum * S - lagFrom x + (x .quanta - 1)) / x .quanta) are ∙ sym (owed-formula T i some S)
+    owed-from S = ap (λ (x : Measures). (x .quantum * S - lagFrom x + (x .quanta - 1)) / x .quanta) are ∙ sym (owed-formula T i some S)
 
     pub wait-from : (lagFrom t + 1 + (t .quantum - 1)) / t .quantum ≡ wait T i
     wait-from =
         let pos = k .ranged .quantum-in i (k .below) .0 in
         let e : lag T i + 1 + (quantumOf T i - 1) ≡ lag T i + quantumOf T i = omega arith in
-        ap (λ (x : Terms). (lagFrom x + 1 + (x .quantum - 1)) / x .quantum) are
+        ap (λ (x : Measures). (lagFrom x + 1 + (x .quantum - 1)) / x .quantum) are
         ∙ ap (λ (x : ℕ). x / quantumOf T i) e
         ∙ add-div-right (lag T i) pos
         ∙ sym (wait-formula T i some pos)

@@ -16,7 +16,7 @@ ghost use Rattle.drr.specs.Facts.{SoundState};
 ghost use Rattle.drr.specs.Figures.{total, lag as lagOf, owed as owedOf, wait as waitOf};
 ghost use Rattle.figures.specs.Answers.{figurePaper, guardPaper, askedAnswer, owedAnswer, waitAnswer, lagAnswer};
 ghost use Rattle.figures.specs.Answers.{valueOf, allFigures, figuresWithin};
-ghost use Rattle.figures.specs.Needs.{Known, termsOf, Limited, lagFrom};
+ghost use Rattle.figures.specs.Needs.{Known, measuresOf, Limited, lagFrom};
 
 pub enum Figure {
     Value(u64),
@@ -30,18 +30,11 @@ enum Guard {
 }
 
 // What the figures are made of: the flow's quantum and maximum, and the sums of all quanta and maxima.
-struct Terms {
+struct Measures {
     quantum: u64,
     maximum: u64,
     quanta: u64,
     maxima: u64,
-}
-
-// Widened, for products.
-fn wide(x: u32) -> u64
-    ensures { λ r. ⌜ (r ≡ x) × (r ≤ 4294967295) ⌝ }
-{
-    x as u64
 }
 
 // x × y, far below 64 bits.
@@ -76,29 +69,29 @@ fn sum_of(cells: [u32; 16], n: usize) -> u64
     let mut sum: u64 = 0;
     let mut f: usize = 0;
     while f < n {
-        sum += wide(cells[f]);
+        sum += widths::u64_of_u32(cells[f]);
         f += 1;
     }
     sum
 }
 
-fn terms_of(table: Table, flow: usize) -> Terms
+fn measures_of(table: Table, flow: usize) -> Measures
     requires { ⌜ Known table flow ⌝ }
-    ensures { λ r. ⌜ (r ≡ termsOf table flow) × Limited r ⌝ }
+    ensures { λ r. ⌜ (r ≡ measuresOf table flow) × Limited r ⌝ }
 {
     let n = table.n;
     let quanta = table.quanta;
     let maxima = table.maxima;
-    Terms {
-        quantum: wide(quanta[flow]),
-        maximum: wide(maxima[flow]),
+    Measures {
+        quantum: widths::u64_of_u32(quanta[flow]),
+        maximum: widths::u64_of_u32(maxima[flow]),
         quanta: sum_of(quanta, n),
         maxima: sum_of(maxima, n),
     }
 }
 
 // C = Q × (L - l) + (F - Q) × (Q + l).
-fn lag_from(t: Terms) -> u64
+fn lag_from(t: Measures) -> u64
     requires { ⌜ Limited t ⌝ }
     ensures { λ r. ⌜ (r ≡ lagFrom t) × (r ≤ 9007199254740992) ⌝ }
 {
@@ -110,7 +103,7 @@ fn lag_in(table: Table, flow: usize) -> u64
     requires { ⌜ Known table flow ⌝ }
     ensures { λ r. ⌜ r ≡ lagOf table flow ⌝ }
 {
-    let t = terms_of(table, flow);
+    let t = measures_of(table, flow);
     lag_from(t)
 }
 
@@ -119,9 +112,9 @@ fn owed_in(table: Table, flow: usize, bytes: u32) -> u64
     requires { ⌜ Known table flow ⌝ }
     ensures { λ r. ⌜ r ≡ owedOf table flow bytes ⌝ }
 {
-    let t = terms_of(table, flow);
+    let t = measures_of(table, flow);
     let lag = lag_from(t);
-    let earned = times(t.quantum, wide(bytes));
+    let earned = times(t.quantum, widths::u64_of_u32(bytes));
     rounded_up(beyond(earned, lag), t.quanta)
 }
 
@@ -130,7 +123,7 @@ fn wait_in(table: Table, flow: usize) -> u64
     requires { ⌜ Known table flow ⌝ }
     ensures { λ r. ⌜ r ≡ waitOf table flow ⌝ }
 {
-    let t = terms_of(table, flow);
+    let t = measures_of(table, flow);
     let lag = lag_from(t);
     rounded_up(lag + 1, t.quantum)
 }
@@ -201,7 +194,11 @@ fn value_of(f: Figure) -> u64
 fn cell_at(cells: [u32; 16], flow: usize) -> u64
     ensures { λ r. ⌜ r ≡ getD cells flow 0 ⌝ }
 {
-    if flow < 16 { wide(cells[flow]) } else { 0 }
+    if flow < 16 {
+        widths::u64_of_u32(cells[flow])
+    } else {
+        0
+    }
 }
 
 // The number at k of a flow's figures: flow, quantum, maximum, C, wait, and owed of each number of bytes.

@@ -6,7 +6,7 @@ use Rattle.figures.proofs.owed_in.Tie as tie
 returns : tie.Need-returns
 returns c =
     let t = c .before .before .before .before .before in
-    cc (owed-from (t .before .pre) (t .terms-of .ensures .0) (t .before .args .bytes))
+    cc (owed-from (t .before .pre) (t .measures-of .ensures .0) (t .before .args .bytes))
 
 pub owed-in-spec : {M : Type 1} → statement M
 owed-in-spec =

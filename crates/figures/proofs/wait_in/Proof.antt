@@ -6,7 +6,7 @@ use Rattle.figures.proofs.wait_in.Tie as tie
 returns : tie.Need-returns
 returns c =
     let t = c .before .before in
-    cc (wait-from (t .before .pre) (t .terms-of .ensures .0))
+    cc (wait-from (t .before .pre) (t .measures-of .ensures .0))
 
 pub wait-in-spec : {M : Type 1} → statement M
 wait-in-spec =
