@@ -5,7 +5,7 @@ use native.Mathlib.Omega.{arith}
 use borrow.Author.Needs.{needs}
 use lib.ListN.{length, getD, drop}
 use Rattle.text.specs.Text.{readOn, wordOf}
-use Rattle.text.proofs.Rows.{word-none, word-start, word-end, too-low, too-high, too-much, one-digit}
+use Rattle.text.proofs.Words.{word-none, word-start, word-end, too-low, too-high, too-much, one-digit}
 use Rattle.text.proofs.word_of.Statement.{statement}
 use Rattle.text.proofs.word_of.Tie as tie
 
