@@ -5,13 +5,14 @@ use mathlib.Core.List.{List, [], _∷_, _++_, append-nil}
 use Prim.Native.Nat.{ℕ, zero, suc, _+_, _*_, _-_, _≤_, _<_, max}
 use native.Mathlib.Numerals.{add-one}
 use native.Mathlib.Omega.{arith}
-use borrow.Author.Tests.{eq-eqb, ne-eqb}
-use lib.Dec.{eqb}
+use borrow.Author.Tests.{eq-eqb, ne-eqb, lt-ltb, le-ltb}
+use lib.Dec.{eqb, ltb}
 use lib.ListN.{length, getD, take, drop, length-append, length-take, length-drop, drop-of-length-le}
 use lib.Seq.{drop-cons, take-all}
 use Rattle.text.specs.declared.Form.{Form}
 use Rattle.text.specs.declared.Form.the-variants.{Line, NoLine}
-use Rattle.text.specs.Text.{decimal, places, fieldText, fieldsText, lineIn, fieldsIn, kinds, formIn, lineText, listingText, numbersText, Put}
+use Rattle.text.specs.Text.{places, decimal, fieldText, fieldsText, numbersText, Put}
+use Rattle.text.specs.Text.{lineIn, fieldsIn, kinds, formIn, lineText, listingText}
 use Rattle.text.proofs.Texts.{decimal-most}
 
 -- a part of a list to its end, as code lends it
@@ -98,36 +99,31 @@ firstLine l = lineIn (formIn kinds (getD l 0 0)) (take 5 (drop 1 l))
 abbrev pub behind : List ℕ → List ℕ
 behind l = listingText (take (length l - 6) (drop 6 l))
 
-pub six-first : (l : List ℕ) → 6 ≤ length l → listingText l ≡ firstLine l ++ cond (eqb (getD l 0 0) 3) [] (behind l)
+by-six : (l : List ℕ) → listingText l ≡ cond (ltb (length l) 6) [] (firstLine l ++ cond (eqb (getD l 0 0) 3) [] (behind l))
 unfolding listingText lineText
-six-first [] h = absurd (omega arith)
-six-first (k ∷ []) h = absurd (omega arith)
-six-first (k ∷ a ∷ []) h = absurd (omega arith)
-six-first (k ∷ a ∷ b ∷ []) h = absurd (omega arith)
-six-first (k ∷ a ∷ b ∷ c ∷ []) h = absurd (omega arith)
-six-first (k ∷ a ∷ b ∷ c ∷ d ∷ []) h = absurd (omega arith)
-six-first (k ∷ a ∷ b ∷ c ∷ d ∷ e ∷ more) h =
-    let five : List ℕ = a ∷ b ∷ c ∷ d ∷ e ∷ [] in
-    ap (λ (m : List ℕ). lineText k five ++ cond (eqb k 3) [] (listingText m)) (sym (to-end 6 (k ∷ five ++ more)))
-
-pub line-first : (l : List ℕ) → 6 ≤ length l → (getD l 0 0 ≡ 3 → ⊥) → listingText l ≡ firstLine l ++ behind l
-line-first l h other = six-first l h ∙ ap (λ (t : Bool). firstLine l ++ cond t [] (behind l)) (ne-eqb (getD l 0 0) 3 other)
-
-pub line-last : (l : List ℕ) → 6 ≤ length l → getD l 0 0 ≡ 3 → listingText l ≡ firstLine l
-line-last l h three =
-    six-first l h
-    ∙ ap (λ (t : Bool). firstLine l ++ cond t [] (behind l)) (eq-eqb (getD l 0 0) 3 three)
-    ∙ append-nil (firstLine l)
+by-six [] = refl
+by-six (k ∷ []) = refl
+by-six (k ∷ a ∷ []) = refl
+by-six (k ∷ a ∷ b ∷ []) = refl
+by-six (k ∷ a ∷ b ∷ c ∷ []) = refl
+by-six (k ∷ a ∷ b ∷ c ∷ d ∷ []) = refl
+by-six (k ∷ a ∷ b ∷ c ∷ d ∷ e ∷ more) =
+    let l : List ℕ = k ∷ a ∷ b ∷ c ∷ d ∷ e ∷ more in
+    rw (le-ltb (length l) 6 (omega arith))
+    (ap (λ (m : List ℕ). firstLine l ++ cond (eqb k 3) [] (listingText m)) (sym (to-end 6 l)))
 
 pub line-none : (l : List ℕ) → length l < 6 → listingText l ≡ []
-unfolding listingText
-line-none [] h = refl
-line-none (k ∷ []) h = refl
-line-none (k ∷ a ∷ []) h = refl
-line-none (k ∷ a ∷ b ∷ []) h = refl
-line-none (k ∷ a ∷ b ∷ c ∷ []) h = refl
-line-none (k ∷ a ∷ b ∷ c ∷ d ∷ []) h = refl
-line-none (k ∷ a ∷ b ∷ c ∷ d ∷ e ∷ more) h = absurd (omega arith)
+line-none l h = rw (lt-ltb (length l) 6 h) at (by-six l)
+
+module _ (l : List ℕ) (h : 6 ≤ length l) where
+  pub six-first : listingText l ≡ firstLine l ++ cond (eqb (getD l 0 0) 3) [] (behind l)
+  six-first = rw (le-ltb (length l) 6 h) at (by-six l)
+
+  pub line-first : (getD l 0 0 ≡ 3 → ⊥) → listingText l ≡ firstLine l ++ behind l
+  line-first other = rw (ne-eqb (getD l 0 0) 3 other) at six-first
+
+  pub line-last : getD l 0 0 ≡ 3 → listingText l ≡ firstLine l
+  line-last three = (rw (eq-eqb (getD l 0 0) 3 three) at six-first) ∙ append-nil (firstLine l)
 
 -- "A run in full": what `drrrun` prints of that listing
 pub printed : listingText

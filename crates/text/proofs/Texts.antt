@@ -23,13 +23,14 @@ pub no-further : (f rest : ℕ) → rest ≡ 0 → further f rest ≡ 0
 no-further zero rest e = refl
 no-further (suc f) rest e = rw (eq-eqb rest 0 e)
 
-pub one-further : (f rest : ℕ) → (rest ≡ 0 → ⊥) → further (suc f) rest ≡ suc (further f (rest / 10))
+one-further : (f rest : ℕ) → (rest ≡ 0 → ⊥) → further (suc f) rest ≡ suc (further f (rest / 10))
 one-further f rest ne = rw (ne-eqb rest 0 ne)
 
 pub places-step : (p k rest : ℕ) → k < 20 → (rest ≡ 0 → ⊥) → k + further (20 - k) rest ≡ p → k + 1 + further (20 - (k + 1)) (rest / 10) ≡ p
 places-step p k rest h ne e =
-    let e1 : 20 - k ≡ suc (20 - (k + 1)) = omega arith in
-    let e2 : further (20 - k) rest ≡ suc (further (20 - (k + 1)) (rest / 10)) = ap (λ (f : ℕ). further f rest) e1 ∙ one-further (20 - (k + 1)) rest ne in
+    let j : ℕ = 20 - (k + 1) in
+    let e1 : 20 - k ≡ suc j = omega arith in
+    let e2 : further (20 - k) rest ≡ suc (further j (rest / 10)) = ap (λ (f : ℕ). further f rest) e1 ∙ one-further j rest ne in
     omega (arith, e2, e)
 
 pub places-last : (p k rest : ℕ) → k ≤ 20 → 20 ≤ k → k + further (20 - k) rest ≡ p → k ≡ p
@@ -38,7 +39,7 @@ places-last p k rest h g e =
     let e2 : further (20 - k) rest ≡ 0 = ap (λ (f : ℕ). further f rest) e1 in
     omega (arith, e2, e)
 
-pub digits-length : (k n : ℕ) → length (digits 10 k n) ≡ k
+digits-length : (k n : ℕ) → length (digits 10 k n) ≡ k
 digits-length zero n = refl
 digits-length (suc k) n = length-append (digits 10 k (n / 10)) (glyph (n % 10) ∷ []) ∙ omega (arith, digits-length k (n / 10))
 
@@ -68,15 +69,6 @@ sets-two b [] v at = ap (λ (i : ℕ). sets b i v) (add-zero at)
 sets-two b (x ∷ u) v at =
     let e : at + suc (length u) ≡ suc at + length u = omega arith in
     ap (λ (i : ℕ). sets (sets b at (x ∷ u)) i v) e ∙ sets-two (set b at x) u v (suc at)
-
-pub after : (b u v b₁ b₂ : List ℕ) (at r₁ r₂ : ℕ) → Put b at u b₁ r₁ → Put b₁ r₁ v b₂ r₂ → Put b at (u ++ v) b₂ r₂
-after b u v b₁ b₂ at r₁ r₂ p q = (
-  q .0
-      ∙ ap (λ (x : List ℕ). sets x r₁ v) (p .0)
-      ∙ ap (λ (i : ℕ). sets (sets b at u) i v) (p .1)
-      ∙ sets-two b u v at,
-  omega (arith, p .1, q .1, length-append u v),
-)
 
 -- a byte, and a text behind it
 pub one-more : (b v b' : List ℕ) (at x r : ℕ) → Put (set b at x) (at + 1) v b' r → Put b at (x ∷ v) b' r
@@ -144,11 +136,12 @@ module _ {b₀ : List ℕ} {at₀ : ℕ} {whole b : List ℕ} {at : ℕ} {rest :
 
     pub left-next : (b' : List ℕ) (r : ℕ) → Put b at u b' r → length b' ≡ length b → Left b₀ at₀ whole b' r v
     left-next b' r q same =
-        let w = after b u v b' (sets b' r v) at r (r + length v) q (refl, refl) in
+        let two : sets b' r v ≡ sets b at (u ++ v) =
+        ap (λ (x : List ℕ). sets x r v) (q .0) ∙ ap (λ (i : ℕ). sets (sets b at u) i v) (q .1) ∙ sets-two b u v at in
         record {
           fits = p .fits;
           size = same ∙ p .size;
-          text = w .0 ∙ ap (sets b at) (sym is) ∙ p .text;
+          text = two ∙ ap (sets b at) (sym is) ∙ p .text;
           count = omega (arith, q .1, both);
         }
 
@@ -188,13 +181,14 @@ span-more rest (suc k) s ne = (
   λ z. let e : suc (suc k) - 1 ≡ suc k = omega arith in omega (arith, ap (λ (j : ℕ). 10 ^ j) e, grown rest (suc k) s .1 (omega arith)),
 )
 
-span-by : (f rest : ℕ) (t : Bool) → eqb rest 0 ≡ t → Span (rest / 10) (further f (rest / 10)) → Span rest (cond t 0 (suc (further f (rest / 10))))
-span-by f rest true e s = (omega (arith, eqb-true rest 0 e), λ z. absurd (omega arith))
-span-by f rest false e s = span-more rest (further f (rest / 10)) s (eqb-false rest 0 e)
+span-by : (rest k : ℕ) (t : Bool) → eqb rest 0 ≡ t → Span (rest / 10) k → Span rest (cond t 0 (suc k))
+span-by rest k true e s = (omega (arith, eqb-true rest 0 e), λ z. absurd (omega arith))
+span-by rest k false e s = span-more rest k s (eqb-false rest 0 e)
 
 further-span : (f rest : ℕ) → rest < 10 ^ f → Span rest (further f rest)
 further-span zero rest h = (h, λ z. absurd (omega arith))
-further-span (suc f) rest h = span-by f rest (eqb rest 0) refl (further-span f (rest / 10) (omega (arith, h, pow-succ' 10 f)))
+further-span (suc f) rest h =
+    span-by rest (further f (rest / 10)) (eqb rest 0) refl (further-span f (rest / 10) (omega (arith, h, pow-succ' 10 f)))
 
 pub places-fewest : (n : ℕ) → n < 10 ^ 20 → Fewest 10 1 n (places n)
 unfolding places

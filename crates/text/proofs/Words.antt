@@ -21,12 +21,20 @@ word-start (x ∷ xs) h = refl
 pub word-end : (w : List ℕ) (n i : ℕ) → length w ≤ i → readOn n (drop i w) ≡ wordOf w → Number n ≡ wordOf w
 word-end w n i h is = sym (ap (readOn n) (drop-of-length-le w h)) ∙ is
 
-module _ (w : List ℕ) (n i : ℕ) (h : i < length w) (is : readOn n (drop i w) ≡ wordOf w) where
-  abbrev pub d : ℕ
+-- at a digit, where those before it gave n
+pub record At (w : List ℕ) (n i : ℕ) : Type 0 where
+  pub inside : i < length w
+  pub read : readOn n (drop i w) ≡ wordOf w
+
+module _ {w : List ℕ} {n i : ℕ} (p : At w n i) where
+  abbrev d : ℕ
   d = getD w i 0
 
+  abbrev next : ℕ
+  next = 10 * n + (d - 48)
+
   here : readOn n (d ∷ drop (i + 1) w) ≡ wordOf w
-  here = sym (ap (readOn n) (drop-cons w i 0 h ∙ ap (λ (k : ℕ). d ∷ drop k w) (sym (add-one i)))) ∙ is
+  here = sym (ap (readOn n) (drop-cons w i 0 (p .inside) ∙ ap (λ (k : ℕ). d ∷ drop k w) (sym (add-one i)))) ∙ p .read
 
   pub too-low : d < 48 → NoNumber ≡ wordOf w
   too-low l = rw (lt-leb 48 d l) at here
@@ -35,11 +43,11 @@ module _ (w : List ℕ) (n i : ℕ) (h : i < length w) (is : readOn n (drop i w)
     pub too-high : 57 < d → NoNumber ≡ wordOf w
     too-high l = rw (le-leb 48 d low, lt-leb d 57 l) at here
 
-    module _ (high : d ≤ 57) (m : ℕ) (next : m ≡ 10 * n + (d - 48)) where
+    module _ (high : d ≤ 57) (m : ℕ) (is : m ≡ next) where
       pub too-much : 4294967295 < m → NoNumber ≡ wordOf w
-      too-much l = rw (le-leb 48 d low, le-leb d 57 high, lt-leb (10 * n + (d - 48)) 4294967295 (omega (arith, next))) at here
+      too-much l = rw (le-leb 48 d low, le-leb d 57 high, lt-leb next 4294967295 (omega (arith, is))) at here
 
       pub one-digit : m ≤ 4294967295 → readOn m (drop (i + 1) w) ≡ wordOf w
       one-digit l =
-          ap (λ (k : ℕ). readOn k (drop (i + 1) w)) next
-          ∙ (rw (le-leb 48 d low, le-leb d 57 high, le-leb (10 * n + (d - 48)) 4294967295 (omega (arith, next))) at here)
+          ap (λ (k : ℕ). readOn k (drop (i + 1) w)) is
+          ∙ (rw (le-leb 48 d low, le-leb d 57 high, le-leb next 4294967295 (omega (arith, is))) at here)

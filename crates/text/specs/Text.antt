@@ -82,7 +82,8 @@ abbrev pub numbersText : List ℕ → List ℕ
 numbersText [] = []
 numbersText (n ∷ ns) = decimal n ++ fieldsText ns
 
--- what is written into a buffer of this many bytes: nothing, where it has fewer than 18 for each number of the list, which is room for any listing
+-- what is written into a buffer of this many bytes: nothing, where it has fewer than 18 for each number of the list,
+-- which is room for any listing
 unfoldable pub listingWithin : List ℕ → ℕ → List ℕ
 listingWithin list room = cond (ltb (room / 18) (length list)) [] (listingText list)
 

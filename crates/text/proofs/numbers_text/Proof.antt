@@ -1,6 +1,6 @@
 use mathlib.Core.Path.{_≡_, refl, _∙_}
 use mathlib.Core.List.{List, _++_}
-use Prim.Native.Nat.{ℕ, _-_, _/_, _≤_}
+use Prim.Native.Nat.{ℕ, _-_, _≤_}
 use native.Mathlib.Omega.{arith}
 use borrow.Author.Needs.{needs}
 use lib.ListN.{length, getD, take, drop}
@@ -10,7 +10,7 @@ use Rattle.text.proofs.Lines.{numbers-most, number-first, no-number}
 use Rattle.text.proofs.numbers_text.Statement.{statement}
 use Rattle.text.proofs.numbers_text.Tie as tie
 
--- the list and the buffer where there is room
+-- where there is room: the numbers, the buffer, the text
 module _ (c : tie.Else1) where
   abbrev l : List ℕ
   l = c .before .before .before .args .list .now
@@ -18,44 +18,50 @@ module _ (c : tie.Else1) where
   abbrev b : List ℕ
   b = c .before .before .before .args .buf .now
 
-  room : length (numbersText l) ≤ length b
+  abbrev t : List ℕ
+  t = numbersText l
+
+  room : length t ≤ length b
   room = omega (arith, c .if1 .left, numbers-most l)
+
+  written : (b' : List ℕ) (r : ℕ) → Put b 0 t b' r → Filled (numbersWithin l (length b)) b b' r
+  unfolding numbersWithin
+  written b' r p = filled _ _ t b b' r (c .if1 .left) room p
 
 -- .. and where there is a number: its text, and the fields behind it
 module _ (c : tie.Else2) where
+  abbrev e : tie.Else1
+  e = c .before
+
   abbrev u : List ℕ
-  u = decimal (getD (l (c .before)) 0 0)
+  u = decimal (getD (l e) 0 0)
 
   abbrev v : List ℕ
-  v = fieldsText (take (length (l (c .before)) - 1) (drop 1 (l (c .before))))
+  v = fieldsText (take (length (l e) - 1) (drop 1 (l e)))
 
-  is : numbersText (l (c .before)) ≡ u ++ v
-  is = number-first (l (c .before)) (c .if2 .left)
+  is : t e ≡ u ++ v
+  is = number-first (l e) (c .if2 .left)
 
-  first : Left (b (c .before)) 0 (numbersText (l (c .before))) (b (c .before)) 0 (numbersText (l (c .before)))
-  first = left-all _ _ _ (omega (arith, room (c .before)))
+  all : Left (b e) 0 (t e) (b e) 0 (t e)
+  all = left-all (b e) 0 (t e) (omega (arith, room e))
 
--- the fields are left
-next : (n : tie.After-put-number) → Left (b (n .before .before .before .before)) 0 (numbersText (l (n .before .before .before .before))) (n .put-number .last .0) (n .put-number .result) (v (n .before .before .before))
-next n = let e = n .before .before .before in left-next (first e) (u e) (v e) (is e) _ _ (n .put-number .ensures) (n .put-number .kept .0)
+-- .. the fields are left
+module _ (n : tie.After-put-number) where
+  abbrev k : tie.Else2
+  k = n .before .before .before
+
+  left : Left (b (e k)) 0 (t (e k)) (n .put-number .last .0) (n .put-number .result) (v k)
+  left = left-next (all k) (u k) (v k) (is k) _ _ (n .put-number .ensures) (n .put-number .kept .0)
 
 returns : tie.Need-returns
 unfolding numbersWithin
-returns c =
-    let a = c .before .before .before .args in
-    unfilled (length (a .buf .now) / 21) (length (a .list .now)) (numbersText (a .list .now)) (a .buf .now) (c .if1 .taken)
-
--- what is put, where there is room
-written : (c : tie.Else1) (b' : List ℕ) (r : ℕ) → Put (b c) 0 (numbersText (l c)) b' r → Filled (numbersWithin (l c) (length (b c))) (b c) b' r
-unfolding numbersWithin
-written c b' r p = filled (length (b c) / 21) (length (l c)) (numbersText (l c)) (b c) b' r (c .if1 .left) (room c) p
+returns c = unfilled _ _ _ _ (c .if1 .taken)
 
 returns-3 : tie.Need-returns-3
 returns-3 c =
     let p = c .before .before in
     let n = p .before .before .before .before .before in
-    let e = n .before .before .before in
-    written (e .before) _ _ (left-end (next n) (v e) refl _ _ (p .put-fields .ensures))
+    written (e (k n)) _ _ (left-end (left n) (v (k n)) refl _ _ (p .put-fields .ensures))
 
 pub numbers-text-spec : {M : Type 1} → statement M
 numbers-text-spec =
@@ -64,10 +70,10 @@ numbers-text-spec =
     returns
     (λ c. written (c .before) _ _ (no-number (l (c .before)) (b (c .before)) (c .if2 .taken)))
     (λ c. search needs)
-    (λ c κs. let e = c .before .before in left-room (first e) (u e) (v e) (is e))
+    (λ c κs. let k = c .before .before in left-room (all k) (u k) (v k) (is k))
     (λ c. search needs)
     (λ c. search needs)
     (λ c. search needs)
-    (λ c κs. left-fits (next (c .before .before .before .before)))
+    (λ c κs. left-fits (left (c .before .before .before .before)))
     (λ c. let p = c .before .before in p .put-fields .kept .1 .0 ∙ p .before .before .before .before .before .put-number .kept .0)
     returns-3)

@@ -5,7 +5,8 @@ use Prim.Native.Nat.{ℕ, _+_, _-_, _≤_}
 use native.Mathlib.Omega.{arith}
 use borrow.Author.Needs.{needs}
 use lib.Dec.{eqb}
-use lib.ListN.{length, getD, take, drop, length-take, length-drop}
+use lib.ListN.{length, getD, take, drop, length-drop}
+use lib.Seq.{length-take-le}
 use Rattle.text.specs.declared.Form.{Form}
 use Rattle.text.specs.Text.{lineIn, fieldsIn, listingText, Put}
 use Rattle.text.proofs.Texts.{Left, left-all, left-room, left-next, left-end, put-none}
@@ -36,9 +37,9 @@ put-line-requires : tie.Need-put-line-requires Inv-loop μ-loop
 put-line-requires c κs =
     let f = c .before .before in
     let k = f .before .before in
-    let five = take 5 (drop 1 (l k)) in (
-      omega (arith, ap fieldsIn (f .form-of .ensures), at-most-five (getD (l k) 0 0), k .loop-test .taken, length-take 5 (drop 1 (l k)), length-drop 1 (l k)),
-      omega (arith, room k, ap (λ (g : Form). length (lineIn g five)) (f .form-of .ensures)),
+    let long : 5 ≤ length (drop 1 (l k)) = omega (arith, k .loop-test .taken, length-drop 1 (l k)) in (
+      omega (arith, ap fieldsIn (f .form-of .ensures), at-most-five (getD (l k) 0 0), length-take-le 5 (drop 1 (l k)) long),
+      omega (arith, room k, ap (λ (g : Form). length (lineIn g (take 5 (drop 1 (l k))))) (f .form-of .ensures)),
     )
 
 -- .. and is put

@@ -1,5 +1,5 @@
-use mathlib.Core.List.{List, [], _∷_}
-use Prim.Native.Nat.{ℕ, _≤_}
+use mathlib.Core.List.{[], _∷_}
+use Prim.Native.Nat.{_≤_}
 use native.Mathlib.Omega.{arith}
 use borrow.Author.Needs.{needs}
 use lib.ListN.{length}
@@ -10,29 +10,21 @@ use Rattle.text.proofs.Lines.{line-most}
 use Rattle.text.proofs.refusal_text.Statement.{statement}
 use Rattle.text.proofs.refusal_text.Tie as tie
 
--- the text and the buffer where there is room
-module _ (c : tie.Else1) where
-  abbrev t : List ℕ
-  t = let a = c .before .before .args in refusalText (a .number) (a .place)
-
-  abbrev b : List ℕ
-  b = c .before .before .args .buf .now
-
-  room : length t ≤ length b
-  room = let a = c .before .before .args in omega (arith, c .if1 .left, line-most (Line 82 2) (a .number ∷ a .place ∷ []))
+room : (c : tie.Else1) → let a = c .before .before .args in length (refusalText (a .number) (a .place)) ≤ length (a .buf .now)
+room c =
+    let a = c .before .before .args in
+    omega (arith, c .if1 .left, line-most (Line 82 2) (a .number ∷ a .place ∷ []))
 
 returns : tie.Need-returns
 unfolding refusalWithin
-returns c =
-    let a = c .before .before .args in
-    unfilled (length (a .buf .now)) 44 (refusalText (a .number) (a .place)) (a .buf .now) (c .if1 .taken)
+returns c = unfilled _ _ _ _ (c .if1 .taken)
 
 returns-2 : tie.Need-returns-2
 unfolding refusalWithin
 returns-2 c =
     let p = c .before .before in
     let e = p .before .before .before in
-    filled (length (b e)) 44 (t e) (b e) _ _ (e .if1 .left) (room e) (p .put-line .ensures)
+    filled _ _ _ _ _ _ (e .if1 .left) (room e) (p .put-line .ensures)
 
 pub refusal-text-spec : {M : Type 1} → statement M
 refusal-text-spec =
