@@ -166,34 +166,26 @@ counted W b x r e is =
 
 -- ---- the definition of the digits is the one that `io`'s numbers have: the fewest digits that hold the number
 abbrev Span : ℕ → ℕ → Type 0
-Span rest k = (rest < 10 ^ k) × (0 < k → 10 ^ (k - 1) ≤ rest)
+Span n k = (n < 10 ^ suc k) × (0 < k → 10 ^ k ≤ n)
 
-grown : (rest k : ℕ) → Span (rest / 10) k → (rest < 10 ^ suc k) × (0 < k → 10 ^ k ≤ rest)
-grown rest k s = (
-  omega (arith, s .0, pow-succ' 10 k),
-  λ z. let e : suc (k - 1) ≡ k = omega arith in omega (arith, s .1 z, pow-succ' 10 (k - 1), ap (λ (j : ℕ). 10 ^ j) e),
-)
+span-more : (n k : ℕ) → (n / 10 ≡ 0 → ⊥) → Span (n / 10) k → Span n (suc k)
+span-more n zero ne s = (omega (arith, s .0, pow-succ' 10 1), λ z. omega (arith, ne))
+span-more n (suc k) ne s =
+    (omega (arith, s .0, pow-succ' 10 (suc (suc k))), λ z. omega (arith, s .1 (omega arith), pow-succ' 10 (suc k)))
 
-span-more : (rest k : ℕ) → Span (rest / 10) k → (rest ≡ 0 → ⊥) → Span rest (suc k)
-span-more rest zero s ne = (grown rest zero s .0, λ z. omega (arith, ne))
-span-more rest (suc k) s ne = (
-  grown rest (suc k) s .0,
-  λ z. let e : suc (suc k) - 1 ≡ suc k = omega arith in omega (arith, ap (λ (j : ℕ). 10 ^ j) e, grown rest (suc k) s .1 (omega arith)),
-)
+span-by : (n k : ℕ) (t : Bool) → eqb (n / 10) 0 ≡ t → Span (n / 10) k → Span n (cond t 0 (suc k))
+span-by n k true e s = (omega (arith, eqb-true (n / 10) 0 e), λ z. absurd (omega arith))
+span-by n k false e s = span-more n k (eqb-false (n / 10) 0 e) s
 
-span-by : (rest k : ℕ) (t : Bool) → eqb rest 0 ≡ t → Span (rest / 10) k → Span rest (cond t 0 (suc k))
-span-by rest k true e s = (omega (arith, eqb-true rest 0 e), λ z. absurd (omega arith))
-span-by rest k false e s = span-more rest k s (eqb-false rest 0 e)
-
-further-span : (f rest : ℕ) → rest < 10 ^ f → Span rest (further f rest)
-further-span zero rest h = (h, λ z. absurd (omega arith))
-further-span (suc f) rest h =
-    span-by rest (further f (rest / 10)) (eqb rest 0) refl (further-span f (rest / 10) (omega (arith, h, pow-succ' 10 f)))
+further-span : (f n : ℕ) → n < 10 ^ suc f → Span n (further f (n / 10))
+further-span zero n h = (h, λ z. absurd (omega arith))
+further-span (suc f) n h =
+    span-by n (further f (n / 10 / 10)) (eqb (n / 10) 0) refl (further-span f (n / 10) (omega (arith, h, pow-succ' 10 (suc f))))
 
 pub places-fewest : (n : ℕ) → n < 10 ^ 20 → Fewest 10 1 n (places n)
 unfolding places
 places-fewest n h =
     let j : ℕ = further 19 (n / 10) in
-    let g = grown n j (further-span 19 (n / 10) (omega arith)) in
+    let g = further-span 19 n h in
     let e : suc j - 1 ≡ j = omega arith in
     (omega arith, g .0, λ z. omega (arith, ap (λ (i : ℕ). 10 ^ i) e, g .1 (omega arith)))

@@ -1,10 +1,8 @@
 use mathlib.Core.Path.{_≡_, sym, ap, _∙_}
-use mathlib.Core.Bool.{cond}
 use mathlib.Core.List.{List, []}
 use Prim.Native.Nat.{ℕ, _+_, _-_, _≤_}
 use native.Mathlib.Omega.{arith}
 use borrow.Author.Needs.{needs}
-use lib.Dec.{eqb}
 use lib.ListN.{length, getD, take, drop, length-drop}
 use lib.Seq.{length-take-le}
 use Rattle.text.specs.declared.Form.{Form}
@@ -29,8 +27,7 @@ module _ (c : tie.In-loop Inv-loop μ-loop) where
   l = O .loop .rest .now
 
   room : O .loop .at + length (firstLine l) ≤ length (O .loop .buf)
-  room =
-      left-room (O .loop .inv) (firstLine l) (cond (eqb (getD l 0 0) 3) [] (behind l)) (six-first l (c .loop-test .taken))
+  room = left-room (O .loop .inv) (firstLine l) _ (six-first l (c .loop-test .taken))
 
 -- .. its first line fits, by the form that is found
 put-line-requires : tie.Need-put-line-requires Inv-loop μ-loop

@@ -10,7 +10,7 @@ use Rattle.text.proofs.word_of.Statement.{statement}
 use Rattle.text.proofs.word_of.Tie as tie
 
 abbrev Inv-loop : tie.InvT-loop
-Inv-loop word n₀ i₀ n i = (n ≤ 4294967295) × (i ≤ length word) × (readOn n (drop i word) ≡ wordOf word)
+Inv-loop word n₀ i₀ n i = (readOn n (drop i word) ≡ wordOf word) × (n ≤ 4294967295) × (i ≤ length word)
 
 abbrev μ-loop : tie.MeasureT-loop
 μ-loop word n₀ i₀ n i = length word - i
@@ -24,7 +24,7 @@ module _ (c : tie.In-loop Inv-loop μ-loop) where
   w = O .before .before .before .args .word .now
 
   at : At w (O .loop .n) (O .loop .i)
-  at = record { inside = c .loop-test .taken; read = O .loop .inv .2 }
+  at = record { inside = c .loop-test .taken; read = O .loop .inv .0 }
 
 -- .. after the tests of a byte: the number with one digit more
 module _ (e : tie.After-digit Inv-loop μ-loop) where
@@ -43,12 +43,12 @@ module _ (e : tie.After-digit Inv-loop μ-loop) where
 loop-again : tie.Need-loop-again Inv-loop μ-loop
 loop-again c =
     let e = c .before in
-    (c .if4 .left, search needs, one-digit (at (k e)) (low e) (high e) _ (next e) (c .if4 .left))
+    (one-digit (at (k e)) (low e) (high e) _ (next e) (c .if4 .left), c .if4 .left, search needs)
 
 returns-5 : tie.Need-returns-5 Inv-loop μ-loop
 returns-5 c =
     let o = c .before in
-    word-end (o .before .before .before .args .word .now) (o .loop .n) (o .loop .i) (c .loop-test .left) (o .loop .inv .2)
+    word-end (o .before .before .before .args .word .now) (o .loop .n) (o .loop .i) (c .loop-test .left) (o .loop .inv .0)
 
 pub word-of-spec : {M : Type 1} → statement M
 word-of-spec =
@@ -57,7 +57,7 @@ word-of-spec =
     Inv-loop
     μ-loop
     (λ c. word-none (c .before .before .args .word .now) (c .if1 .taken))
-    (λ c. (omega arith, search needs, word-start (c .before .before .args .word .now) (c .if1 .left)))
+    (λ c. (word-start (c .before .before .args .word .now) (c .if1 .left), omega arith, search needs))
     (λ c. search needs)
     (λ c. too-low (at (c .before .before)) (c .if2 .taken))
     (λ c. too-high (at (c .before .before .before)) (c .before .if2 .left) (c .if3 .taken))
