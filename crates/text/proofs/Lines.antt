@@ -76,6 +76,17 @@ pub at-most-five : (kind : ℕ) → fieldsIn (formIn kinds kind) ≤ 5
 unfolding kinds
 at-most-five kind = within-most kinds kind
 
+-- a kind that is none of a table's, as the last arm of a `match` has it: the facts of the arms before it, one behind the other
+abbrev pub NoneOf : List (ℕ × Form) → ℕ → Type 0 → Type 0
+NoneOf [] kind P = P
+NoneOf (entry ∷ more) kind P = NoneOf more kind (P × (kind ≡ entry .0 → ⊥))
+
+pub no-form : (table : List (ℕ × Form)) (kind : ℕ) (P : Type 0) → NoneOf table kind P → P × (NoLine ≡ formIn table kind)
+no-form [] kind P p = (p, refl)
+no-form (entry ∷ more) kind P p =
+    let q = no-form more kind (P × (kind ≡ entry .0 → ⊥)) p in
+    (q .0 .0, rw (ne-eqb kind (entry .0) (q .0 .1)) (q .1))
+
 -- ---- field after field
 pub field-first : (l : List ℕ) (i : ℕ) → i < length l → fieldsText (drop i l) ≡ fieldText (getD l i 0) ++ fieldsText (drop (i + 1) l)
 field-first l i h = ap fieldsText (drop-cons l i 0 h) ∙ ap (λ (k : ℕ). fieldText (getD l i 0) ++ fieldsText (drop k l)) (sym (add-one i))
