@@ -28,7 +28,7 @@ module _ (c : tie.Else1) where
   unfolding numbersWithin
   written b' r p = filled _ _ t b b' r (c .if1 .left) room p
 
--- .. and where there is a number: its text, and the fields behind it
+-- .. and where there is a number: it is put, and then the fields behind it
 module _ (c : tie.Else2) where
   abbrev e : tie.Else1
   e = c .before
@@ -45,13 +45,9 @@ module _ (c : tie.Else2) where
   all : Left (b e) 0 (t e) (b e) 0 (t e)
   all = left-all (b e) 0 (t e) (omega (arith, room e))
 
--- .. the fields are left
-module _ (n : tie.After-put-number) where
-  abbrev k : tie.Else2
-  k = n .before .before .before
-
-  left : Left (b (e k)) 0 (t (e k)) (n .put-number .last .0) (n .put-number .result) (v k)
-  left = left-next (all k) (u k) (v k) (is k) _ _ (n .put-number .ensures) (n .put-number .kept .0)
+left : (n : tie.After-put-number) → let k = n .before .before .before in
+    Left (b (e k)) 0 (t (e k)) (n .put-number .last .0) (n .put-number .result) (v k)
+left n = let k = n .before .before .before in left-next (all k) (u k) _ (is k) _ _ (n .put-number .ensures) (n .put-number .kept .0)
 
 returns : tie.Need-returns
 unfolding numbersWithin
@@ -61,7 +57,7 @@ returns-3 : tie.Need-returns-3
 returns-3 c =
     let p = c .before .before in
     let n = p .before .before .before .before .before in
-    written (e (k n)) _ _ (left-end (left n) (v (k n)) refl _ _ (p .put-fields .ensures))
+    written (e (n .before .before .before)) _ _ (left-end (left n) _ refl _ _ (p .put-fields .ensures))
 
 pub numbers-text-spec : {M : Type 1} → statement M
 numbers-text-spec =
@@ -70,7 +66,7 @@ numbers-text-spec =
     returns
     (λ c. written (c .before) _ _ (no-number (l (c .before)) (b (c .before)) (c .if2 .taken)))
     (λ c. search needs)
-    (λ c κs. let k = c .before .before in left-room (all k) (u k) (v k) (is k))
+    (λ c κs. let k = c .before .before in left-room (all k) (u k) _ (is k))
     (λ c. search needs)
     (λ c. search needs)
     (λ c. search needs)

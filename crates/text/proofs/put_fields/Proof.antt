@@ -1,5 +1,5 @@
-use mathlib.Core.Path.{_≡_, refl, _∙_}
-use mathlib.Core.List.{List, [], _∷_, _++_}
+use mathlib.Core.Path.{_≡_, refl}
+use mathlib.Core.List.{List, [], _∷_}
 use Prim.Native.Nat.{ℕ, _+_, _-_, _≤_}
 use native.Mathlib.Omega.{arith}
 use borrow.Author.Needs.{needs}
@@ -16,28 +16,27 @@ Inv-loop fields buf₀ start at₀ done₀ buf at done = Left buf₀ start (fiel
 abbrev μ-loop : tie.MeasureT-loop
 μ-loop fields buf₀ start at₀ done₀ buf at done = length fields - done
 
-abbrev l : tie.At-loop Inv-loop μ-loop → List ℕ
-l o = o .before .before .before .args .fields .now
-
--- in a turn: a field, and those behind it
-module _ (c : tie.In-loop Inv-loop μ-loop) where
-  abbrev O : tie.At-loop Inv-loop μ-loop
-  O = c .before
+-- the list, and the text of its field at the loop's place
+module _ (o : tie.At-loop Inv-loop μ-loop) where
+  abbrev l : List ℕ
+  l = o .before .before .before .args .fields .now
 
   abbrev u : List ℕ
-  u = fieldText (getD (l O) (O .loop .done) 0)
+  u = fieldText (getD l (o .loop .done) 0)
 
-  abbrev v : List ℕ
-  v = fieldsText (drop (O .loop .done + 1) (l O))
-
-  is : fieldsText (drop (O .loop .done) (l O)) ≡ u ++ v
-  is = field-first (l O) (O .loop .done) (c .loop-test .taken)
+put-field-requires : tie.Need-put-field-requires Inv-loop μ-loop
+put-field-requires c κs =
+    let k = c .before .before in
+    let o = k .before in
+    left-room (o .loop .inv) (u o) _ (field-first (l o) (o .loop .done) (k .loop-test .taken))
 
 loop-again : tie.Need-loop-again Inv-loop μ-loop
 loop-again c =
     let p = c .before .before in
     let k = p .before .before .before in
-    left-next (O k .loop .inv) (u k) (v k) (is k) _ _ (p .put-field .ensures) (p .put-field .kept .0)
+    let o = k .before in
+    left-next (o .loop .inv) (u o) _ (field-first (l o) (o .loop .done) (k .loop-test .taken))
+    _ _ (p .put-field .ensures) (p .put-field .kept .0)
 
 -- after the loop the newline is left
 module _ (c : tie.After-loop Inv-loop μ-loop) where
@@ -56,7 +55,7 @@ put-fields-spec =
     (λ c. left-all _ _ _ (c .before .before .pre))
     (λ c. search needs)
     (λ c. search needs)
-    (λ c κs. let k = c .before .before in left-room (O k .loop .inv) (u k) (v k) (is k))
+    put-field-requires
     (λ c. search needs)
     (λ c. search needs)
     loop-again

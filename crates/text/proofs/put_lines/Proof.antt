@@ -1,6 +1,6 @@
 use mathlib.Core.Path.{_≡_, sym, ap, _∙_}
-use mathlib.Core.List.{List, []}
-use Prim.Native.Nat.{ℕ, _+_, _-_, _≤_}
+use mathlib.Core.List.{List}
+use Prim.Native.Nat.{ℕ, _+_, _≤_}
 use native.Mathlib.Omega.{arith}
 use borrow.Author.Needs.{needs}
 use lib.ListN.{length, getD, take, drop, length-drop}
@@ -8,7 +8,7 @@ use lib.Seq.{length-take-le}
 use Rattle.text.specs.declared.Form.{Form}
 use Rattle.text.specs.Text.{lineIn, fieldsIn, listingText, Put}
 use Rattle.text.proofs.Texts.{Left, left-all, left-room, left-next, left-end, put-none}
-use Rattle.text.proofs.Lines.{in-form, at-most-five, firstLine, behind, six-first, line-first, line-last, line-none}
+use Rattle.text.proofs.Lines.{in-form, at-most-five, firstLine, six-first, line-first, line-last, line-none}
 use Rattle.text.proofs.put_lines.Statement.{statement}
 use Rattle.text.proofs.put_lines.Tie as tie
 
@@ -51,20 +51,20 @@ returns : tie.Need-returns Inv-loop μ-loop
 returns c =
     let p = c .before .before .before in
     let k = p .before .before .before .before .before in
-    left-end (O k .loop .inv) (firstLine (l k)) (line-last (l k) (k .loop-test .taken) (c .if1 .taken)) _ _ (put p)
+    left-end (O k .loop .inv) _ (line-last (l k) (k .loop-test .taken) (c .if1 .taken)) _ _ (put p)
 
 loop-again : tie.Need-loop-again Inv-loop μ-loop
 loop-again c =
     let e = c .before in
     let p = e .before .before .before in
     let k = p .before .before .before .before .before in
-    left-next (O k .loop .inv) (firstLine (l k)) (behind (l k)) (line-first (l k) (k .loop-test .taken) (e .if1 .left))
+    left-next (O k .loop .inv) (firstLine (l k)) _ (line-first (l k) (k .loop-test .taken) (e .if1 .left))
     _ _ (put p) (p .put-line .kept .1 .1 .0)
 
 returns-2 : tie.Need-returns-2 Inv-loop μ-loop
 returns-2 c =
     let o = c .before .loop in
-    left-end (o .inv) [] (line-none (o .rest .now) (c .loop-test .left)) _ _ (put-none (o .buf) (o .at))
+    left-end (o .inv) _ (line-none (o .rest .now) (c .loop-test .left)) _ _ (put-none (o .buf) (o .at))
 
 pub put-lines-spec : {M : Type 1} → statement M
 put-lines-spec =
