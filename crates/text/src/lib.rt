@@ -4,7 +4,7 @@ ghost use Prim.Native.Nat.{_+_, _-_, _≤_};
 ghost use lib.ListN.{length};
 ghost use lib.Seq.{sets};
 ghost use Rattle.io.specs.Digits.{digits};
-ghost use Rattle.text.specs.Text.{decimal, fieldText, fieldsText, lineIn, fieldsIn, kinds, formIn, listingText};
+ghost use Rattle.text.specs.Text.{decimal, fieldsText, lineIn, fieldsIn, kinds, formIn, listingText};
 ghost use Rattle.text.specs.Text.{listingWithin, refusalWithin, numbersWithin, laid, Put, wordOf};
 ghost use Rattle.text.specs.Text.{places as Text·places};
 
@@ -49,15 +49,6 @@ fn put_number(buf: &mut [u8], at: usize, n: u64) -> usize
     at + k
 }
 
-// A space and a number.
-fn put_field(buf: &mut [u8], at: usize, n: u64) -> usize
-    requires { ⌜ at + length (fieldText n) ≤ length (now buf) ⌝ }
-    ensures { λ r. ⌜ Put (now (buf .entry)) at (fieldText n) (now (buf .exit)) r ⌝ }
-{
-    buf[at] = b' ';
-    put_number(buf, at + 1, n)
-}
-
 // Numbers, each with the space before it, and the newline.
 fn put_fields(fields: &[u64], buf: &mut [u8], start: usize) -> usize
     requires { ⌜ start + length (fieldsText (now fields)) ≤ length (now buf) ⌝ }
@@ -66,7 +57,8 @@ fn put_fields(fields: &[u64], buf: &mut [u8], start: usize) -> usize
     let mut at = start;
     let mut done: usize = 0;
     while done < fields.len() {
-        at = put_field(buf, at, fields[done]);
+        buf[at] = b' ';
+        at = put_number(buf, at + 1, fields[done]);
         done += 1;
     }
     buf[at] = b'\n';
