@@ -71,8 +71,8 @@ use Rattle.text.proofs.listing_text.Statement as listing-text-says
 use Rattle.text.proofs.listing_text.Met as listing-text-met
 use Rattle.text.proofs.refusal_text.Statement as refusal-text-says
 use Rattle.text.proofs.refusal_text.Met as refusal-text-met
-use Rattle.text.proofs.row_text.Statement as row-text-says
-use Rattle.text.proofs.row_text.Met as row-text-met
+use Rattle.text.proofs.numbers_text.Statement as numbers-text-says
+use Rattle.text.proofs.numbers_text.Met as numbers-text-met
 use Rattle.text.proofs.word_of.Statement as word-of-says
 use Rattle.text.proofs.word_of.Met as word-of-met
 use Rattle.figures.specs.declared.Figure.{Figure}
@@ -140,8 +140,8 @@ listing-text-meets = listing-text-met.met
 pub refusal-text-meets : {M : Type 1} → refusal-text-says.statement M
 refusal-text-meets = refusal-text-met.met
 
-pub row-text-meets : {M : Type 1} → row-text-says.statement M
-row-text-meets = row-text-met.met
+pub numbers-text-meets : {M : Type 1} → numbers-text-says.statement M
+numbers-text-meets = numbers-text-met.met
 
 pub word-of-meets : {M : Type 1} → word-of-says.statement M
 word-of-meets = word-of-met.met

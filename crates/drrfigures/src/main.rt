@@ -70,7 +70,7 @@ fn text_of(s: State, flow: usize, sizes: &[u32], buf: &mut [u8]) -> usize
 {
     let mut list = [0u64; 21];
     let n = figures::all_figures(s, flow, sizes, &mut list);
-    text::row_text(&list[..n], buf)
+    text::numbers_text(&list[..n], buf)
 }
 
 fn print_flow(s: State, flow: usize, sizes: [u32; 16], count: usize)

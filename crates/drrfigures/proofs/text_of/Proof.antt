@@ -17,7 +17,7 @@ returns c =
     let t = c .before .before in
     let r = t .before .before .before .before in
     let b = r .before .before .before .before .args .buf .now in
-    counted (texts.rowWithin _ (length b)) b _ _ (t .row-text .ensures .0) (t .row-text .ensures .1)
+    counted (texts.numbersWithin _ (length b)) b _ _ (t .numbers-text .ensures .0) (t .numbers-text .ensures .1)
 
 pub text-of-spec : {M : Type 1} → statement M
 text-of-spec =
