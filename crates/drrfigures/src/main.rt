@@ -106,10 +106,6 @@ fn print_refusal(number: u64, place: u64) {
     io::write_all(1, &text[..size]);
 }
 
-fn wide(x: u32) -> u64 {
-    x as u64
-}
-
 fn main() {
     let asked = sizes_given();
     if asked.count == 0 {
@@ -121,7 +117,8 @@ fn main() {
     let made = runfile::reader::read_flows(&file[..n]);
     let answer = made.answer;
     if let Verdict::Refused(why, place) = answer {
-        print_refusal(wide(drr::refusal_number(why)), place as u64);
+        let number = widths::u64_of_u32(drr::refusal_number(why));
+        print_refusal(number, widths::u64_of_usize(place));
         return;
     }
     let sizes = asked.sizes;

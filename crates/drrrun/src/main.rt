@@ -2,21 +2,13 @@
 use drr::Verdict;
 ghost use Rattle.io.specs.Counts.{Counts};
 
-fn wide(x: u32) -> u64 {
-    x as u64
-}
-
-fn number(x: usize) -> u64 {
-    x as u64
-}
-
 // The text of the answer at the start of the buffer, and how many bytes it has.
 fn text_of(answer: Verdict, list: &[u64], buf: &mut [u8]) -> usize
     ensures { λ r. ⌜ Counts r (now (buf .exit)) ⌝ }
 {
     if let Verdict::Refused(why, place) = answer {
-        let refusal = wide(drr::refusal_number(why));
-        return text::refusal_text(refusal, number(place), buf);
+        let refusal = widths::u64_of_u32(drr::refusal_number(why));
+        return text::refusal_text(refusal, widths::u64_of_usize(place), buf);
     }
     text::listing_text(list, buf)
 }

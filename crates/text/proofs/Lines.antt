@@ -12,7 +12,7 @@ use lib.Seq.{drop-cons, take-all}
 use Rattle.text.specs.declared.Form.{Form}
 use Rattle.text.specs.declared.Form.the-variants.{Line, NoLine}
 use Rattle.text.specs.Text.{places, decimal, fieldText, fieldsText, numbersText, Put}
-use Rattle.text.specs.Text.{lineIn, fieldsIn, kinds, formIn, lineText, listingText}
+use Rattle.text.specs.Text.{formText, fieldsIn, kinds, formIn, lineText, listingText}
 use Rattle.text.proofs.Texts.{decimal-most}
 
 -- a part of a list to its end, as code lends it
@@ -28,7 +28,7 @@ pub numbers-most : (l : List ℕ) → length (numbersText l) ≤ 21 * length l
 numbers-most [] = omega arith
 numbers-most (n ∷ ns) = omega (arith, length-append (decimal n) (fieldsText ns), decimal-most n, fields-most ns)
 
-pub line-most : (form : Form) (l : List ℕ) → length (lineIn form l) ≤ 21 * length l + 2
+pub line-most : (form : Form) (l : List ℕ) → length (formText form l) ≤ 21 * length l + 2
 line-most (Line letter count) l = omega (arith, fields-most (take count l), length-take count l)
 line-most NoLine l = omega arith
 
@@ -56,7 +56,7 @@ listing-most (k ∷ a ∷ b ∷ c ∷ d ∷ e ∷ more) =
     )
 
 -- a line by what its form is
-pub in-form : {form f : Form} → form ≡ f → (l b b' : List ℕ) (at r : ℕ) → Put b at (lineIn f l) b' r → Put b at (lineIn form l) b' r
+pub in-form : {form f : Form} → form ≡ f → (l b b' : List ℕ) (at r : ℕ) → Put b at (formText f l) b' r → Put b at (formText form l) b' r
 in-form e l b b' at r p = rw e p
 
 -- ---- the table: no form of it prints more than five fields
@@ -105,7 +105,7 @@ no-number (n ∷ ns) b e = absurd (omega arith)
 -- ---- line after line
 -- the text of the line at the start of a list, and of those behind it
 abbrev pub firstLine : List ℕ → List ℕ
-firstLine l = lineIn (formIn kinds (getD l 0 0)) (take 5 (drop 1 l))
+firstLine l = formText (formIn kinds (getD l 0 0)) (take 5 (drop 1 l))
 
 abbrev pub behind : List ℕ → List ℕ
 behind l = listingText (take (length l - 6) (drop 6 l))

@@ -12,7 +12,7 @@ use lib.Dec.{eqb, ltb}
 use lib.Seq.{sets, sets-eq, set-comm, length-take-le}
 use Rattle.io.specs.Counts.{Counts}
 use Rattle.io.specs.Digits.{digits, glyph, Fewest}
-use Rattle.text.specs.Text.{further, places, decimal, laid, Put}
+use Rattle.text.specs.Text.{further, places, decimal, overlaid, Put}
 
 -- ---- the digits of a number
 pub places-first : (n : ℕ) → 1 + further 19 (n / 10) ≡ places n
@@ -147,7 +147,7 @@ module _ {b₀ : List ℕ} {at₀ : ℕ} {whole b : List ℕ} {at : ℕ} {rest :
 
 -- ---- the whole text, from the start of a buffer
 abbrev pub Filled : List ℕ → List ℕ → List ℕ → ℕ → Type 0
-Filled t b b' r = (r ≡ length t) × (b' ≡ laid t b)
+Filled t b b' r = (r ≡ length t) × (b' ≡ overlaid t b)
 
 -- of a text that is written where x is at least y, and else not
 pub unfilled : (x y : ℕ) (t b : List ℕ) → x < y → Filled (cond (ltb x y) [] t) b b 0
@@ -159,7 +159,7 @@ filled x y t b b' r h room p =
     rw (le-ltb x y h) (p .1 ∙ e, p .0 ∙ sets-eq t b 0 (omega arith) ∙ ap (λ (i : ℕ). t ++ drop i b) e)
 
 -- the numbers of W at the start of a list are no more than the list's: `&list[..r]` can be lent
-pub counted : (W b x : List ℕ) (r : ℕ) → r ≡ length W → x ≡ laid W b → Counts r x
+pub counted : (W b x : List ℕ) (r : ℕ) → r ≡ length W → x ≡ overlaid W b → Counts r x
 counted W b x r e is =
     let most : r ≤ length x = omega (arith, ap length is, length-append W (drop (length W) b)) in
     (most, sym (length-take-le r x most))

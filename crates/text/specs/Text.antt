@@ -35,9 +35,9 @@ fieldsText [] = 10 ∷ []
 fieldsText (n ∷ ns) = fieldText n ++ fieldsText ns
 
 -- a line in its form: the letter, then the first so many of its fields; no text for no form
-abbrev pub lineIn : Form → List ℕ → List ℕ
-lineIn (Line letter count) fields = letter ∷ fieldsText (take count fields)
-lineIn NoLine fields = []
+abbrev pub formText : Form → List ℕ → List ℕ
+formText (Line letter count) fields = letter ∷ fieldsText (take count fields)
+formText NoLine fields = []
 
 -- how many fields a form prints
 abbrev pub fieldsIn : Form → ℕ
@@ -61,7 +61,7 @@ formIn (entry ∷ more) kind = cond (eqb kind (entry .0)) (entry .1) (formIn mor
 
 -- "prints one line each": the text of a line by its kind and its five fields; none for a kind that no listing has
 unfoldable pub lineText : ℕ → List ℕ → List ℕ
-lineText kind five = lineIn (formIn kinds kind) five
+lineText kind five = formText (formIn kinds kind) five
 
 -- "six 64-bit numbers a line", line after line, up to and with line 3; fewer than six numbers at the end give nothing
 unfoldable pub listingText : List ℕ → List ℕ
@@ -75,7 +75,7 @@ listingText (k ∷ a ∷ b ∷ c ∷ d ∷ e ∷ more) = lineText k (a ∷ b ∷
 
 -- "for a refused file one line `R number place`"
 abbrev pub refusalText : ℕ → ℕ → List ℕ
-refusalText number place = lineIn (Line 82 2) (number ∷ place ∷ [])
+refusalText number place = formText (Line 82 2) (number ∷ place ∷ [])
 
 -- numbers alone, as `drrfigures` prints them: parted by one space, a newline at the end; no text for no number
 abbrev pub numbersText : List ℕ → List ℕ
@@ -96,8 +96,8 @@ unfoldable pub numbersWithin : List ℕ → ℕ → List ℕ
 numbersWithin list room = cond (ltb (room / 21) (length list)) [] (numbersText list)
 
 -- a buffer with this text at its start, and what follows as it was
-abbrev pub laid : List ℕ → List ℕ → List ℕ
-laid text b = text ++ drop (length text) b
+abbrev pub overlaid : List ℕ → List ℕ → List ℕ
+overlaid text b = text ++ drop (length text) b
 
 -- the text v is put at `at`, byte after byte: what the buffer is then, and where the text ends
 abbrev pub Put : List ℕ → ℕ → List ℕ → List ℕ → ℕ → Type 0

@@ -4,8 +4,8 @@ ghost use Prim.Native.Nat.{_+_, _-_, _≤_};
 ghost use lib.ListN.{length};
 ghost use lib.Seq.{sets};
 ghost use Rattle.io.specs.Digits.{digits};
-ghost use Rattle.text.specs.Text.{decimal, fieldsText, lineIn, fieldsIn, kinds, formIn, listingText};
-ghost use Rattle.text.specs.Text.{listingWithin, refusalWithin, numbersWithin, laid, Put, wordOf};
+ghost use Rattle.text.specs.Text.{decimal, fieldsText, formText, fieldsIn, kinds, formIn, listingText};
+ghost use Rattle.text.specs.Text.{listingWithin, refusalWithin, numbersWithin, overlaid, Put, wordOf};
 ghost use Rattle.text.specs.Text.{places as Text·places};
 
 // How many digits a number has.
@@ -74,8 +74,8 @@ enum Form {
 // A line in its form.
 fn put_line(form: Form, fields: &[u64], buf: &mut [u8], at: usize) -> usize
     requires { ⌜ fieldsIn form ≤ length (now fields) ⌝ }
-    requires { ⌜ at + length (lineIn form (now fields)) ≤ length (now buf) ⌝ }
-    ensures { λ r. ⌜ Put (now (buf .entry)) at (lineIn form (now (fields .entry))) (now (buf .exit)) r ⌝ }
+    requires { ⌜ at + length (formText form (now fields)) ≤ length (now buf) ⌝ }
+    ensures { λ r. ⌜ Put (now (buf .entry)) at (formText form (now (fields .entry))) (now (buf .exit)) r ⌝ }
 {
     let Form::Line(letter, count) = form else {
         return at;
@@ -119,7 +119,7 @@ fn put_lines(list: &[u64], buf: &mut [u8]) -> usize
 pub fn listing_text(list: &[u64], buf: &mut [u8]) -> usize
     ensures { λ r. ⌜ r ≡ length (listingWithin (now (list .entry)) (length (now (buf .entry)))) ⌝ }
     ensures { λ r. ⌜ now (buf .exit) ≡
-        laid (listingWithin (now (list .entry)) (length (now (buf .entry)))) (now (buf .entry)) ⌝ }
+        overlaid (listingWithin (now (list .entry)) (length (now (buf .entry)))) (now (buf .entry)) ⌝ }
 {
     if buf.len() / 18 < list.len() {
         return 0;
@@ -132,7 +132,7 @@ pub fn listing_text(list: &[u64], buf: &mut [u8]) -> usize
 pub fn refusal_text(number: u64, place: u64, buf: &mut [u8]) -> usize
     ensures { λ r. ⌜ r ≡ length (refusalWithin number place (length (now (buf .entry)))) ⌝ }
     ensures { λ r. ⌜ now (buf .exit) ≡
-        laid (refusalWithin number place (length (now (buf .entry)))) (now (buf .entry)) ⌝ }
+        overlaid (refusalWithin number place (length (now (buf .entry)))) (now (buf .entry)) ⌝ }
 {
     if buf.len() < 44 {
         return 0;
@@ -146,7 +146,7 @@ pub fn refusal_text(number: u64, place: u64, buf: &mut [u8]) -> usize
 pub fn numbers_text(list: &[u64], buf: &mut [u8]) -> usize
     ensures { λ r. ⌜ r ≡ length (numbersWithin (now (list .entry)) (length (now (buf .entry)))) ⌝ }
     ensures { λ r. ⌜ now (buf .exit) ≡
-        laid (numbersWithin (now (list .entry)) (length (now (buf .entry)))) (now (buf .entry)) ⌝ }
+        overlaid (numbersWithin (now (list .entry)) (length (now (buf .entry)))) (now (buf .entry)) ⌝ }
 {
     if buf.len() / 21 < list.len() {
         return 0;

@@ -10,7 +10,7 @@ returns c =
     let t = c .before .before in
     let n = t .before .before in
     let a = n .before .before .before .before .before .before .before .before .args in
-    counted (refusalWithin (n .before .wide .result) (n .number .result) (length (a .buf .now))) (a .buf .now) _ _ (t .refusal-text .ensures .0) (t .refusal-text .ensures .1)
+    counted (refusalWithin (n .before .u64-of-u32 .result) (n .u64-of-usize .result) (length (a .buf .now))) (a .buf .now) _ _ (t .refusal-text .ensures .0) (t .refusal-text .ensures .1)
 
 returns-2 : tie.Need-returns-2
 returns-2 c =

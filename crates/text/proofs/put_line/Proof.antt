@@ -6,7 +6,7 @@ use borrow.Author.Needs.{needs}
 use lib.ListN.{length, take, length-set}
 use lib.Seq.{length-take-le}
 use Rattle.text.specs.declared.Form.{Form}
-use Rattle.text.specs.Text.{fieldsText, lineIn, fieldsIn}
+use Rattle.text.specs.Text.{fieldsText, formText, fieldsIn}
 use Rattle.text.proofs.Texts.{put-none, one-more}
 use Rattle.text.proofs.Lines.{in-form}
 use Rattle.text.proofs.put_line.Statement.{statement}
@@ -27,7 +27,7 @@ module _ (c : tie.After-form) where
   enough = omega (arith, ap fieldsIn (c .form .given .1), S .pre .0)
 
   room : S .args .at + 1 + length (fieldsText (take n l)) ≤ length (S .args .buf .now)
-  room = omega (arith, ap (λ (f : Form). length (lineIn f l)) (c .form .given .1), S .pre .1)
+  room = omega (arith, ap (λ (f : Form). length (formText f l)) (c .form .given .1), S .pre .1)
 
 returns : tie.Need-returns
 returns c =

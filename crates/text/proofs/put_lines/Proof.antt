@@ -6,7 +6,7 @@ use borrow.Author.Needs.{needs}
 use lib.ListN.{length, getD, take, drop, length-drop}
 use lib.Seq.{length-take-le}
 use Rattle.text.specs.declared.Form.{Form}
-use Rattle.text.specs.Text.{lineIn, fieldsIn, listingText, Put}
+use Rattle.text.specs.Text.{formText, fieldsIn, listingText, Put}
 use Rattle.text.proofs.Texts.{Left, left-all, left-room, left-next, left-end, put-none}
 use Rattle.text.proofs.Lines.{in-form, at-most-five, firstLine, six-first, line-first, line-last, line-none}
 use Rattle.text.proofs.put_lines.Statement.{statement}
@@ -36,7 +36,7 @@ put-line-requires c κs =
     let k = f .before .before in
     let long : 5 ≤ length (drop 1 (l k)) = omega (arith, k .loop-test .taken, length-drop 1 (l k)) in (
       omega (arith, ap fieldsIn (f .form-of .ensures), at-most-five (getD (l k) 0 0), length-take-le 5 (drop 1 (l k)) long),
-      omega (arith, room k, ap (λ (g : Form). length (lineIn g (take 5 (drop 1 (l k))))) (f .form-of .ensures)),
+      omega (arith, room k, ap (λ (g : Form). length (formText g (take 5 (drop 1 (l k))))) (f .form-of .ensures)),
     )
 
 -- .. and is put
