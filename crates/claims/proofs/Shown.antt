@@ -25,7 +25,7 @@ event-first tick flow len r true X rest h = h
 event-first tick flow len r false X rest h = ap (λ (z : List ℕ). lineText 2 (tick ∷ flow ∷ len ∷ r ∷ 0 ∷ []) ++ z) h
 
 send-first : (t : ℕ) (l : Line) (a : Answer) (l' : Line) (X rest : List ℕ) → PickedAs l a l' → listingText (X ++ rest) ≡ listingText X →
-    listingText ((startLine t (a .numbers) ++ X) ++ rest) ≡ listingText (startLine t (a .numbers) ++ X)
+    listingText ((startLine t a ++ X) ++ rest) ≡ listingText (startLine t a ++ X)
 unfolding listingText
 send-first t l a l' X rest (idled e x y) h = rw e h
 send-first t l a l' X rest (gave f len d v e less most) h = rw e (ap (λ (z : List ℕ). lineText 1 (t ∷ f ∷ len ∷ d ∷ v ∷ []) ++ z) h)
@@ -39,5 +39,5 @@ shown T (comes a f n ∷ ks) l y rest ok =
     (shown T ks (arrivalOf T l f n .line) (afterEvent a (arrivalOf T l f n .answer .refusal) y) rest (arrival-keeps T l ok f n))
 shown T (asks t ∷ ks) l y rest ok =
     send-first t l (pickOf T l .answer) (pickOf T l .line)
-    (listing T ks (pickOf T l .line) (afterPick t (pickOf T l .answer .numbers) y)) rest (pick-as T l ok)
-    (shown T ks (pickOf T l .line) (afterPick t (pickOf T l .answer .numbers) y) rest (pick-keeps T l ok))
+    (listing T ks (pickOf T l .line) (afterPick t (pickOf T l .answer) y)) rest (pick-as T l ok)
+    (shown T ks (pickOf T l .line) (afterPick t (pickOf T l .answer) y) rest (pick-keeps T l ok))

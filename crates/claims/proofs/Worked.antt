@@ -10,7 +10,7 @@ use Rattle.drr.specs.Answers.{guarded}
 use Rattle.drr.specs.Arrival.{arrivalOf}
 use Rattle.drr.specs.Pick.{firstOf}
 use Rattle.drr.specs.Computed.{lookFor}
-use Rattle.drr.specs.Setup.{setupAnswer, setupReply}
+use Rattle.drr.specs.Setup.{setupAnswer, setupTable, setupReply}
 use Rattle.drr.specs.Figures.{owed}
 use Rattle.drr.specs.Floor.{Call, arrives, picks, afterCalls, bytesSent, flowSent, WaitsAtPicks}
 use Rattle.claims.proofs.Claims.{setup-sound, the-floor}
@@ -40,7 +40,7 @@ pub record Run : Type 0 where
   pub sent : flowSent then stretch 1 ≡ 750
 
 pub run : Run
-unfolding all cellsb flowb soundb guarded arrivalOf firstOf lookFor setupAnswer setupReply
+unfolding all cellsb flowb soundb guarded arrivalOf firstOf lookFor setupAnswer setupTable
 run = record {
   waits = (lit< tt, (lit< tt, (lit< tt, (lit< tt, (lit< tt, tt)))));
   bytes = refl;
@@ -49,5 +49,5 @@ run = record {
 
 -- so the floor speaks of it
 pub floor-here : owed (setupReply flows .state .table) 1 (bytesSent then stretch) ≤ flowSent then stretch 1
-unfolding setupAnswer setupReply
+unfolding setupAnswer setupTable
 floor-here = the-floor (setupReply flows .state) (setup-sound flows) before stretch 1 (lit< tt) (run .waits)

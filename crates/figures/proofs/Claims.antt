@@ -23,16 +23,3 @@ figure-back (Refused why) = rw (named why .some, named why .back)
 -- two values of the enum never have the same paper answer
 pub figure-apart : (a b : Figure) → figurePaper a ≡ figurePaper b → a ≡ b
 figure-apart = one-value figurePaper figureFrom figure-back
-
--- no second answer meets a contract
-pub one-owed : (s : State) (flow S : ℕ) (r t : Figure) →
-    figurePaper r ≡ owedAnswer s flow S → figurePaper t ≡ owedAnswer s flow S → r ≡ t
-one-owed s flow S r t p q = figure-apart r t (p ∙ sym q)
-
-pub one-wait : (s : State) (flow : ℕ) (r t : Figure) →
-    figurePaper r ≡ waitAnswer s flow → figurePaper t ≡ waitAnswer s flow → r ≡ t
-one-wait s flow r t p q = figure-apart r t (p ∙ sym q)
-
-pub one-lag : (s : State) (flow : ℕ) (r t : Figure) →
-    figurePaper r ≡ lagAnswer s flow → figurePaper t ≡ lagAnswer s flow → r ≡ t
-one-lag s flow r t p q = figure-apart r t (p ∙ sym q)

@@ -1,25 +1,23 @@
 -- What is proved of the reader and of a file's run beside their contracts.
-use mathlib.Core.Path.{_≡_, refl, sym, ap, _∙_}
+use mathlib.Core.Path.{_≡_, refl, ap, _∙_}
 use mathlib.Core.List.{List, [], _∷_, _++_}
 use Prim.Native.Nat.{ℕ, _+_, _*_, _≤_, _<_}
 use native.Mathlib.Omega.{arith}
+use borrow.Author.Tests.{eqb-true}
+use lib.Dec.{eqb}
 use lib.ListN.{length, length-append, drop}
-use Rattle.drr.specs.declared.Made.{Made}
 use Rattle.drr.specs.declared.Table.{Table}
-use Rattle.drr.specs.declared.Verdict.{Verdict}
 use Rattle.drr.specs.State.{Line, freshLine, freshState}
 use Rattle.drr.specs.Facts.{Sound, Ranged}
-use Rattle.drr.specs.Answers.{verdictPaper, reply}
 use Rattle.drr.specs.Figures.{owed}
 use Rattle.drr.specs.Floor.{lineAfter, afterCalls, bytesSent, flowSent, WaitsAtPicks}
-use Rattle.drr.proofs.Papers.{verdict-one, one-made}
+use Rattle.drr.proofs.Bools.{by-test}
 use Rattle.drr.proofs.Tables.{fresh-sound, made-ranged}
 use Rattle.drr.proofs.Calls.{fresh-state-sound}
 use Rattle.drr.proofs.Waiting.{fresh-waits}
 use Rattle.drr.proofs.Demand3.{calls-keep, demand-3}
-use Rattle.runfile.specs.declared.reader.Contents.{Contents}
 use Rattle.runfile.specs.declared.turns.Tally.{Tally}
-use Rattle.runfile.specs.File.{eventCount, eventOffset, flowsIn, eventsIn, fileAnswer, fileTable, fileEvents, flowsReply, runAnswer}
+use Rattle.runfile.specs.File.{eventCount, eventOffset, flowsIn, eventsIn, fileAnswer, runAnswer}
 use Rattle.runfile.specs.Run.{Act, free, Timed, bookedIn, callsIn, tableIn, runCalls}
 use Rattle.runfile.specs.Listing.{tally, tallyAfter, endLine, linesOf, ends, ticksOf, lastOf, acceptedTo, sentTo, runListing, filled}
 use Rattle.runfile.proofs.Files.{file-setup, file-sorted}
@@ -27,23 +25,12 @@ use Rattle.runfile.proofs.Going.{events-length}
 use Rattle.runfile.proofs.Runs.{run-timed, run-books, run-only, run-empties}
 use Rattle.runfile.proofs.Counts.{each-one, all-in-turn, listing-is, lines-length, ends-count, last-is}
 
--- no second answer, table or place of the events meets the contract of `reader::read`
-pub one-read : (b : List ℕ) (r t : Contents) →
-    (verdictPaper (r .answer) ≡ fileAnswer b) × (r .table ≡ fileTable b) × (r .events ≡ fileEvents b) →
-    (verdictPaper (t .answer) ≡ fileAnswer b) × (t .table ≡ fileTable b) × (t .events ≡ fileEvents b) → r ≡ t
-one-read b r t p q =
-    let a = verdict-one (r .answer) (t .answer) (p .0 ∙ sym (q .0)) in
-    λ i. record { answer = a i; table = (p .1 ∙ sym (q .1)) i; events = (p .2 ∙ sym (q .2)) i }
-
--- .. and of `reader::read_flows`
-pub one-flows : (b : List ℕ) (r t : Made) →
-    reply (verdictPaper (r .answer)) (r .state) ≡ flowsReply b → reply (verdictPaper (t .answer)) (t .state) ≡ flowsReply b → r ≡ t
-one-flows b = one-made (flowsReply b)
-
--- no second answer or content of the lent list meets the contract of `run`
-pub one-run : (b out : List ℕ) (r t : Verdict) (o p : List ℕ) →
-    (verdictPaper r ≡ runAnswer b (length out)) × (o ≡ filled b out) → (verdictPaper t ≡ runAnswer b (length out)) × (p ≡ filled b out) → (r ≡ t) × (o ≡ p)
-one-run b out r t o p h k = (verdict-one r t (h .0 ∙ sym (k .0)), h .1 ∙ sym (k .1))
+-- a refused run leaves the lent list as it came
+pub refused-leaves : (b out : List ℕ) → (runAnswer b (length out) .refusal ≡ 0 → ⊥) → filled b out ≡ out
+unfolding filled
+refused-leaves b out some =
+    by-test (λ (o : List ℕ). o ≡ out) (eqb (runAnswer b (length out) .refusal) 0)
+    (λ e. absurd (some (eqb-true (runAnswer b (length out) .refusal) 0 e))) (λ _. refl)
 
 -- ---- the run of a file that is not refused
 module _ (b : List ℕ) (ok : fileAnswer b .refusal ≡ 0) where
