@@ -13,14 +13,11 @@ use Rattle.drr.specs.declared.Tabled.{Tabled}
 use Rattle.drr.specs.declared.Made.{Made}
 use Rattle.drr.specs.declared.Picked.{Picked}
 use Rattle.drr.specs.declared.Arrived.{Arrived}
-use Rattle.drr.specs.declared.PickedLine.{PickedLine}
-use Rattle.drr.specs.declared.ArrivedLine.{ArrivedLine}
 use Rattle.drr.specs.declared.ArrivalAnswer.{ArrivalAnswer}
 use Rattle.drr.specs.declared.Verdict.{Verdict}
 use Rattle.drr.specs.Answers.{verdictPaper, Outcome, Reply, reply}
 use Rattle.drr.specs.Setup.{setupReply}
 use Rattle.drr.proofs.Papers as papers
-use Rattle.drr.proofs.States.{line-one}
 use Rattle.engine.specs.declared.Picking.{Picking}
 use Rattle.figures.specs.declared.Figure.{Figure}
 use Rattle.figures.proofs.Claims.{figure-apart}
@@ -30,7 +27,6 @@ use Rattle.exports.specs.declared.Fault.{Fault}
 use Rattle.exports.specs.declared.Replied.{Replied}
 use Rattle.exports.specs.declared.Answered.{Answered}
 use lib.ListN.{getD}
-use Rattle.drr.specs.Answers.{Answer}
 use Rattle.drr.proofs.refusal_number.Reads as of-refusal-number
 use Rattle.drr.proofs.common_of.Reads as of-common
 use Rattle.widths.proofs.usize_of_u8.Reads as of-usize-of-u8
@@ -45,8 +41,6 @@ use Rattle.scheduler.proofs.flows.table_of.Reads as of-table-of
 use Rattle.scheduler.proofs.flows.refused.Reads as of-refused
 use Rattle.scheduler.proofs.flows.fresh.Reads as of-fresh
 use Rattle.scheduler.proofs.sound_line.Reads as of-sound-line
-use Rattle.scheduler.proofs.arrival_line.Reads as of-arrival-line
-use Rattle.scheduler.proofs.pick_line.Reads as of-pick-line
 use Rattle.engine.proofs.sound_in.Reads as of-sound-in
 use Rattle.engine.proofs.pick_in.Reads as of-pick-in
 use Rattle.engine.proofs.book.Reads as of-book
@@ -127,25 +121,10 @@ pub one-setup : (xs : List FlowRecord) (r t : Made) →
     reply (verdictPaper (r .answer)) (r .state) ≡ setupReply xs → reply (verdictPaper (t .answer)) (t .state) ≡ setupReply xs → r ≡ t
 one-setup xs = papers.one-made (setupReply xs)
 
--- ---- its inner functions, which other crates call on a sound line
+-- ---- the test of a line, and the steps beneath, which other crates call
 
 pub one-sound-line : (κs : _) (a : _) (r t : Bool) (x y : _) → of-sound-line.Post κs a r x → of-sound-line.Post κs a t y → r ≡ t
 one-sound-line κs a r t x y p q = p ∙ sym (q)
-
-pub one-arrival-line : (κs : _) (a : _) (r t : ArrivedLine) (x y : _) → of-arrival-line.Post κs a r x → of-arrival-line.Post κs a t y →
-    r ≡ t
-one-arrival-line κs a r t x y p q =
-    let e = p ∙ sym q in
-    let answer = papers.arrival-one (r .answer) (t .answer) (ap (λ (z : Outcome). z .answer) e) in
-    let line = line-one (r .line) (t .line) (ap (λ (z : Outcome). z .line) e) in
-    λ i. record { answer = answer i; line = line i }
-
-pub one-pick-line : (κs : _) (a : _) (r t : PickedLine) (x y : _) → of-pick-line.Post κs a r x → of-pick-line.Post κs a t y → r ≡ t
-one-pick-line κs a r t x y p q =
-    let e = p ∙ sym q in
-    let answer = papers.pick-one (r .answer) (t .answer) (ap (λ (z : Outcome). z .answer) e) in
-    let line = line-one (r .line) (t .line) (ap (λ (z : Outcome). z .line) e) in
-    λ i. record { answer = answer i; line = line i }
 
 pub one-sound-in : (κs : _) (a : _) (r t : Bool) (x y : _) → of-sound-in.Post κs a r x → of-sound-in.Post κs a t y → r ≡ t
 one-sound-in κs a r t x y p q = p ∙ sym (q)

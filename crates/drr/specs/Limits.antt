@@ -1,5 +1,5 @@
 -- Document 01's table of least and most, a name for each number. Where the least is 0 it needs no name.
-use Prim.Native.Nat.{ℕ, _+_, _*_}
+use Prim.Native.Nat.{ℕ, _*_}
 
 -- "flows n": 1 to 16
 abbrev pub mostFlows : ℕ

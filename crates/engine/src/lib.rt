@@ -12,7 +12,7 @@ use drr::Refusal;
 use drr::Spot;
 ghost use mathlib.Core.Path.{_≡_};
 ghost use mathlib.Core.Bool.{true, false};
-ghost use Prim.Native.Nat.{ℕ, _+_, _-_, _≤_, _<_};
+ghost use Prim.Native.Nat.{_+_, _-_, _≤_, _<_};
 ghost use Rattle.drr.specs.State.{tableOf, lineOf, spotAt, charge, shiftedOf};
 ghost use Rattle.drr.specs.Sound.{headb, numbersb, cellb, soundb};
 ghost use Rattle.drr.specs.Facts.{Sound};

@@ -4,7 +4,6 @@ use mathlib.Core.List.{List}
 use Prim.Native.Nat.{ℕ}
 use Rattle.drr.specs.declared.State.{State}
 use Rattle.drr.specs.Answers.{Answer, Reply, reply}
-use Rattle.exports.specs.declared.Replied.{Replied}
 use Rattle.exports.specs.Told.{told, toldReply}
 
 pub tells : {ns : List ℕ} {a : Answer} {s : State} {r : Reply} →

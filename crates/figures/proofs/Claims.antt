@@ -1,16 +1,14 @@
 -- What is proved of the figures beyond the functions' contracts.
 -- (Vectors.antt has P1 to P12.)
-use mathlib.Core.Path.{_≡_, refl, sym, _∙_}
+use mathlib.Core.Path.{_≡_, refl}
 use mathlib.Core.Bool.{cond}
-use Prim.Native.Nat.{ℕ}
 use lib.Dec.{eqb}
 use lib.ListN.{getD}
-use Rattle.drr.specs.declared.State.{State}
 use Rattle.drr.specs.Answers.{Answer}
 use Rattle.drr.proofs.Papers.{refusalOf, named, one-value}
 use Rattle.figures.specs.declared.Figure.{Figure}
 use Rattle.figures.specs.declared.Figure.the-variants.{Value, Refused}
-use Rattle.figures.specs.Answers.{figurePaper, owedAnswer, waitAnswer, lagAnswer}
+use Rattle.figures.specs.Answers.{figurePaper}
 
 figureFrom : Answer → Figure
 figureFrom a = cond (eqb (a .refusal) 0) (Value (getD (a .numbers) 0 0)) (Refused (refusalOf (a .refusal)))

@@ -24,7 +24,7 @@ use Rattle.drr.proofs.Demand3.{calls-keep, reply-is}
 use Rattle.drr.proofs.Rows.{pick-takes, arrival-adds}
 use Rattle.runfile.specs.declared.turns.Tally.{Tally}
 use Rattle.runfile.specs.Run.{Act, comes, asks, outcomeOf, bookedIn, callIn, callsIn}
-use Rattle.runfile.specs.Listing.{tally, startLine, lineFor, afterEvent, afterPick, afterAct, tallyAfter, endLine, linesOf, listing, endOf, ends, ticksOf, lastOf, acceptedTo, sentTo}
+use Rattle.runfile.specs.Listing.{tally, startLine, lineFor, afterEvent, afterPick, afterAct, tallyAfter, endLine, linesOf, listing, ends, ticksOf, lastOf, acceptedTo, sentTo}
 use Rattle.runfile.proofs.Going.{lines, arrival-waits}
 
 -- a call on the line is document 01's call on the state made of it

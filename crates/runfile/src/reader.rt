@@ -1,4 +1,6 @@
 // The reader of a run file: any bytes at all, and every refusal in document 01's order.
+use super::fields::le2;
+use super::fields::le4;
 use drr::FlowList;
 use drr::FlowRecord;
 use drr::Made;
@@ -8,12 +10,12 @@ use drr::Tabled;
 use drr::Terms;
 use drr::Verdict;
 ghost use mathlib.Core.Path.{_≡_};
-ghost use Prim.Native.Nat.{ℕ, _+_, _*_, _≤_, _<_};
+ghost use Prim.Native.Nat.{_+_, _*_, _≤_, _<_};
 ghost use lib.ListN.{length};
 ghost use Rattle.drr.specs.State.{noFlows, freshState};
 ghost use Rattle.drr.specs.Answers.{numberOf, fine, refusedAt, verdictPaper, reply};
 ghost use Rattle.drr.specs.Setup.{setupAnswer, setupTable, recordsIn};
-ghost use Rattle.runfile.specs.File.{le2 as le2Of, le4 as le4Of, Narrow, noRecords, layoutIn, noTables, tablesb, Laid};
+ghost use Rattle.runfile.specs.File.{Narrow, noRecords, layoutIn, noTables, tablesb, Laid};
 ghost use Rattle.runfile.specs.File.{headerAnswer, headerLayout, flowsFrom, flowsIn, eventsFrom, ticksAnswer};
 ghost use Rattle.runfile.specs.File.{fileAnswer, fileTable, fileEvents, flowsReply};
 
@@ -40,22 +42,6 @@ pub struct Contents {
     pub answer: Verdict,
     pub table: Table,
     pub events: Part,
-}
-
-// Two bytes, little-endian.
-pub fn le2(b: &[u8], i: usize) -> usize
-    requires { ⌜ i + 2 ≤ length (now b) ⌝ }
-    ensures { λ r. ⌜ (r ≡ le2Of (now (b .entry)) i) × (r < 65536) ⌝ }
-{
-    widths::usize_of_u8(b[i]) + 256 * widths::usize_of_u8(b[i + 1])
-}
-
-// Four bytes, little-endian.
-pub fn le4(b: &[u8], i: usize) -> usize
-    requires { ⌜ i + 4 ≤ length (now b) ⌝ }
-    ensures { λ r. ⌜ (r ≡ le4Of (now (b .entry)) i) × (r < 4294967296) ⌝ }
-{
-    le2(b, i) + 65536 * le2(b, i + 2)
 }
 
 // The header's fields of the two tables.

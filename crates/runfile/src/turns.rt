@@ -1,7 +1,7 @@
 // The run of a file's events: the engine's booking and pick over local arrays, and a line written for
 // each packet sent and each event refused.
-use super::reader::le2;
-use super::reader::le4;
+use super::fields::le2;
+use super::fields::le4;
 use drr::ArrivalAnswer;
 use drr::PickAnswer;
 use drr::Spot;
@@ -9,7 +9,7 @@ use drr::Table;
 ghost use mathlib.Core.Path.{_≡_};
 ghost use mathlib.Core.Bool.{cond, false};
 ghost use mathlib.Core.List.{_++_, _∷_, []};
-ghost use Prim.Native.Nat.{ℕ, _+_, _*_, _-_, _≤_, _<_};
+ghost use Prim.Native.Nat.{_+_, _*_, _-_, _≤_, _<_};
 ghost use lib.ListN.{length, drop};
 ghost use Rattle.drr.specs.State.{spotAt};
 ghost use Rattle.drr.specs.Facts.{Ranged};

@@ -75,7 +75,7 @@ pub fn sound_line(table: Table, line: Line) -> bool
 }
 
 // The arrival on a sound line.
-pub fn arrival_line(table: Table, line: Line, flow: usize, length: u32) -> ArrivedLine
+fn arrival_line(table: Table, line: Line, flow: usize, length: u32) -> ArrivedLine
     requires { ⌜ Sound table (lineIn line) ⌝ }
     ensures { λ r. ⌜
         outcome (arrivalPaper (r .answer)) (lineIn (r .line)) ≡ arrivalOf table (lineIn line) flow length ⌝ }
@@ -101,7 +101,7 @@ pub fn arrival_line(table: Table, line: Line, flow: usize, length: u32) -> Arriv
 }
 
 // The pick on a sound line.
-pub fn pick_line(table: Table, line: Line) -> PickedLine
+fn pick_line(table: Table, line: Line) -> PickedLine
     requires { ⌜ Sound table (lineIn line) ⌝ }
     ensures { λ r. ⌜ outcome (pickPaper (r .answer)) (lineIn (r .line)) ≡ pickOf table (lineIn line) ⌝ }
 {

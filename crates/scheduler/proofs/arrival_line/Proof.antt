@@ -1,4 +1,4 @@
-use mathlib.Core.Path.{_≡_, ap, subst⁻¹, _∙_}
+use mathlib.Core.Path.{ap, subst⁻¹, _∙_}
 use borrow.Author.Needs.{needs}
 use Rattle.drr.specs.declared.Common.{Common}
 use Rattle.drr.specs.State.{Line, spotAt}

@@ -15,7 +15,7 @@ use Rattle.drr.proofs.Bools.{refuted, passed, or-left}
 use Rattle.drr.proofs.Papers.{number-some}
 use Rattle.runfile.specs.declared.reader.Layout.{Layout}
 use Rattle.runfile.specs.File.{headerAnswer, headerLayout, headerSize, mostBytes, statedLength, reserved, flowCount, eventCount}
-use Rattle.runfile.specs.File.{flowOffset, eventOffset, layoutIn, noTables, tablesb}
+use Rattle.runfile.specs.File.{flowOffset, eventOffset, noTables, tablesb}
 use Rattle.runfile.proofs.Files.{layout-is}
 use Rattle.runfile.proofs.reader.header.Statement.{statement}
 use Rattle.runfile.proofs.reader.header.Tie as tie

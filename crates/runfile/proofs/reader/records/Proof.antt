@@ -4,7 +4,7 @@ use Prim.Native.Nat.{ℕ, _+_, _*_, _-_, _≤_, _<_}
 use native.Mathlib.Nat.{zero-add}
 use native.Mathlib.Omega.{arith}
 use borrow.Author.Needs.{needs}
-use lib.ListN.{length, set, take, replicate}
+use lib.ListN.{set, take, replicate}
 use lib.Seq.{paste, take-paste, take-all}
 use Rattle.drr.specs.declared.FlowRecord.{FlowRecord}
 use Rattle.drr.proofs.Copies.{copy-turn}

@@ -1,8 +1,7 @@
 use mathlib.Core.Path.{_∙_, ap}
 use borrow.Author.Needs.{needs}
-use Rattle.drr.specs.declared.Table.{Table}
 use Rattle.drr.specs.State.{freshState}
-use Rattle.drr.specs.Answers.{verdictPaper, reply}
+use Rattle.drr.specs.Answers.{reply}
 use Rattle.scheduler.proofs.flows.setup_of.Statement.{statement}
 use Rattle.scheduler.proofs.flows.setup_of.Tie as tie
 

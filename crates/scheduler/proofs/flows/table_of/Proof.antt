@@ -1,5 +1,5 @@
 use mathlib.Core.Path.{_≡_, sym, ap, _∙_}
-use mathlib.Core.Bool.{Bool, false, _||_}
+use mathlib.Core.Bool.{Bool, _||_}
 use mathlib.Core.List.{List}
 use Prim.Native.Nat.{ℕ, _≤_}
 use borrow.Author.Needs.{needs}
@@ -11,7 +11,7 @@ use Rattle.drr.specs.Limits.{mostFlows}
 use Rattle.drr.specs.Answers.{verdictPaper}
 use Rattle.drr.proofs.Bools.{or-right}
 use Rattle.drr.proofs.Shape.{list-long}
-use Rattle.scheduler.proofs.Setups.{Gives, Counted, gives-count, gives-bad, gives-table, counted}
+use Rattle.scheduler.proofs.Setups.{Counted, gives-count, gives-bad, gives-table, counted}
 use Rattle.scheduler.proofs.flows.table_of.Statement.{statement}
 use Rattle.scheduler.proofs.flows.table_of.Tie as tie
 
