@@ -19,7 +19,8 @@ use Rattle.text.specs.Text.{lineText, listingText}
 
 -- a line in front, of an event or of a packet sent
 event-first : (tick flow len r : ℕ) (b : Bool) (X rest : List ℕ) → listingText (X ++ rest) ≡ listingText X →
-    listingText ((cond b [] (2 ∷ tick ∷ flow ∷ len ∷ r ∷ 0 ∷ []) ++ X) ++ rest) ≡ listingText (cond b [] (2 ∷ tick ∷ flow ∷ len ∷ r ∷ 0 ∷ []) ++ X)
+    listingText ((cond b [] (2 ∷ tick ∷ flow ∷ len ∷ r ∷ 0 ∷ []) ++ X) ++ rest)
+    ≡ listingText (cond b [] (2 ∷ tick ∷ flow ∷ len ∷ r ∷ 0 ∷ []) ++ X)
 unfolding listingText
 event-first tick flow len r true X rest h = h
 event-first tick flow len r false X rest h = ap (λ (z : List ℕ). lineText 2 (tick ∷ flow ∷ len ∷ r ∷ 0 ∷ []) ++ z) h
@@ -30,7 +31,8 @@ unfolding listingText
 send-first t l a l' X rest (idled e x y) h = rw e h
 send-first t l a l' X rest (gave f len d v e less most) h = rw e (ap (λ (z : List ℕ). lineText 1 (t ∷ f ∷ len ∷ d ∷ v ∷ []) ++ z) h)
 
-pub shown : (T : Table) (ks : List Act) (l : Line) (y : Tally) (rest : List ℕ) → Sound T l → listingText (listing T ks l y ++ rest) ≡ listingText (listing T ks l y)
+pub shown : (T : Table) (ks : List Act) (l : Line) (y : Tally) (rest : List ℕ) → Sound T l →
+    listingText (listing T ks l y ++ rest) ≡ listingText (listing T ks l y)
 unfolding listing listingText
 shown T [] l y rest ok = refl
 shown T (comes a f n ∷ ks) l y rest ok =

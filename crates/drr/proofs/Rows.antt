@@ -9,7 +9,7 @@ use lib.Dec.{ltb, leb, eqb}
 use lib.ListN.{length, set, take}
 use lib.Seq.{getD-set-same, getD-set-other}
 use Rattle.drr.specs.declared.Table.{Table}
-use Rattle.drr.specs.State.{Line, maximumOf, waitingOf, rowOf}
+use Rattle.drr.specs.State.{Line, maximumOf, waitingOf, rowOf, lengthsIn}
 use Rattle.drr.specs.Facts.{Sound}
 use Rattle.drr.specs.Answers.{Outcome}
 use Rattle.drr.specs.Arrival.{put, arrivalOf}
@@ -19,7 +19,7 @@ use Rattle.drr.proofs.Bools.{by-test, same?}
 use Rattle.drr.proofs.Steps.{low}
 use Rattle.drr.proofs.One.{pick-is}
 use Rattle.drr.proofs.Round.{cyclic}
-use Rattle.drr.proofs.Service.{lengthsIn, picks-serve}
+use Rattle.drr.proofs.Service.{picks-serve}
 use Rattle.drr.proofs.Demand3.{placed}
 
 take-set : (row : List ℕ) (c v : ℕ) → c < length row → take (suc c) (set row c v) ≡ take c row ++ (v ∷ [])

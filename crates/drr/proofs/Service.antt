@@ -11,7 +11,7 @@ use lib.ListN.{length, getD, set, take, length-set}
 use lib.Seq.{getD-set-same, getD-set-other, set-getD, take-append-le}
 use Rattle.drr.specs.declared.Table.{Table}
 use Rattle.drr.specs.declared.Found.the-variants.{At, Nothing}
-use Rattle.drr.specs.State.{Line, quantumOf, maximumOf, deficitOf, waitingOf, rowOf, oldest, oldestCharge, shiftedOf}
+use Rattle.drr.specs.State.{Line, quantumOf, maximumOf, deficitOf, waitingOf, rowOf, lengthsIn, oldest, oldestCharge, shiftedOf}
 use Rattle.drr.specs.Facts.{Sound}
 use Rattle.drr.specs.Answers.{Answer, idle, sentAs}
 use Rattle.drr.specs.Arrival.{put}
@@ -28,10 +28,6 @@ use Rattle.drr.proofs.Stretches.{View, Stretch, start, quiet}
 use Rattle.drr.proofs.Ranks.{only, only-same, only-other, seen, NoPass, rest, send, close, visit-own, visit-other}
 use Rattle.drr.proofs.Order.{Order}
 use Rattle.drr.proofs.Bounds.{Bounded, charge-within, closed-below, not-open, not-place, sound-bounded, sent-bounded}
-
--- the lengths that wait in flow i, oldest first
-abbrev pub lengthsIn : Line → ℕ → List ℕ
-lengthsIn l i = take (waitingOf l i) (rowOf l i)
 
 -- sending takes the first of them
 take-first : (row : List ℕ) (c : ℕ) → 0 < c → c ≤ length row → take c row ≡ getD row 0 0 ∷ take (c - 1) (shiftedOf row)

@@ -47,7 +47,13 @@ module _ {T : Table} {f : ℕ} {v : Bool} {d c : ℕ} {row : List ℕ} (u : Flow
   sent-flow long some d' small =
       let w = u .used in-table in
       record {
-        used = λ _. record { quantum-least = w .quantum-least; quantum-most = w .quantum-most; maximum-least = w .maximum-least; maximum-most = w .maximum-most; count-most = omega (arith, w .count-most) };
+        used = λ _. record {
+          quantum-least = w .quantum-least;
+          quantum-most = w .quantum-most;
+          maximum-least = w .maximum-least;
+          maximum-most = w .maximum-most;
+          count-most = omega (arith, w .count-most);
+        };
         credit = λ _. record {
           visited-below = λ _. small;
           empty-zero = λ p. absurd (true≢false p);
@@ -68,7 +74,13 @@ module _ {T : Table} {f : ℕ} {v : Bool} {d c : ℕ} {row : List ℕ} (u : Flow
       let w = u .used in-table in
       let k₀ = u .credit in-table in
       record {
-        used = λ _. record { quantum-least = w .quantum-least; quantum-most = w .quantum-most; maximum-least = w .maximum-least; maximum-most = w .maximum-most; count-most = omega arith };
+        used = λ _. record {
+          quantum-least = w .quantum-least;
+          quantum-most = w .quantum-most;
+          maximum-least = w .maximum-least;
+          maximum-most = w .maximum-most;
+          count-most = omega arith;
+        };
         credit = λ _. record {
           visited-below = k₀ .visited-below;
           empty-zero = λ p z. absurd (omega arith);

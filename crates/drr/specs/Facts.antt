@@ -9,7 +9,7 @@ use lib.ListN.{length, getD}
 use Rattle.drr.specs.declared.Table.{Table}
 use Rattle.drr.specs.declared.State.{State}
 use Rattle.drr.specs.Limits.{mostFlows, leastQuantum, mostQuantum, leastMaximum, mostMaximum, mostWaiting}
-use Rattle.drr.specs.State.{Line, quantumOf, maximumOf, deficitOf, waitingOf, rowOf, charge, lineIn}
+use Rattle.drr.specs.State.{Line, quantumOf, maximumOf, deficitOf, waitingOf, rowOf, lengthsIn, charge, lineIn}
 use Rattle.drr.specs.Sound.{visited}
 
 -- "a flow without an open visit has deficit 0 if empty, otherwise a deficit below its oldest length; the flow with the open visit
@@ -74,3 +74,16 @@ SoundState s = Sound (s .table) (lineIn (s .line))
 
 abbrev pub ShapedState : State → Type 0
 ShapedState s = Shaped (s .table) (lineIn (s .line))
+
+-- ---- "so one meaning has one state": what two states say, unused cells and unused flows apart
+pub record SameTable (T U : Table) : Type 0 where
+  pub flows : T .n ≡ U .n
+  pub quanta : (f : ℕ) → f < T .n → quantumOf T f ≡ quantumOf U f
+  pub maxima : (f : ℕ) → f < T .n → maximumOf T f ≡ maximumOf U f
+
+pub record SameMeaning (s t : State) : Type 0 where
+  pub tables : SameTable (s .table) (t .table)
+  pub deficits : (f : ℕ) → f < s .table .n → deficitOf (lineIn (s .line)) f ≡ deficitOf (lineIn (t .line)) f
+  pub waiting : (f : ℕ) → f < s .table .n → lengthsIn (lineIn (s .line)) f ≡ lengthsIn (lineIn (t .line)) f
+  pub places : s .line .place ≡ t .line .place
+  pub visits : s .line .opened ≡ t .line .opened

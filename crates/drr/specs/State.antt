@@ -2,7 +2,7 @@
 use mathlib.Core.Bool.{Bool, false}
 use mathlib.Core.List.{List, [], _∷_, _++_, map}
 use Prim.Native.Nat.{ℕ, _+_, _-_}
-use lib.ListN.{getD, set, drop, replicate}
+use lib.ListN.{getD, set, take, drop, replicate}
 use Rattle.drr.specs.declared.Common.{Common}
 use Rattle.drr.specs.declared.Table.{Table}
 use Rattle.drr.specs.declared.Row.{Row}
@@ -57,6 +57,10 @@ rowOf l f = getD (l .rows) f []
 -- the oldest length that waits in flow f
 abbrev pub oldest : Line → ℕ → ℕ
 oldest l f = getD (rowOf l f) 0 0
+
+-- the lengths that wait in flow f, oldest first
+abbrev pub lengthsIn : Line → ℕ → List ℕ
+lengthsIn l f = take (waitingOf l f) (rowOf l f)
 
 -- "A packet's charge is its length in bytes as the arrival gives it."
 abbrev pub charge : ℕ → ℕ

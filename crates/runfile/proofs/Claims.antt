@@ -58,8 +58,10 @@ module _ (b : List ℕ) (ok : fileAnswer b .refusal ≡ 0) where
   file-sound ks = calls-keep T fresh (fresh-sound ranged) (callsIn ks)
 
   -- demand 3, in any stretch of calls and so in any of the run's
-  pub file-floor : (before stretch : List Act) (i : ℕ) → i < T .n → WaitsAtPicks (afterCalls (freshState T) (callsIn before)) (callsIn stretch) i →
-      owed T i (bytesSent (afterCalls (freshState T) (callsIn before)) (callsIn stretch)) ≤ flowSent (afterCalls (freshState T) (callsIn before)) (callsIn stretch) i
+  pub file-floor : (before stretch : List Act) (i : ℕ) → i < T .n →
+      WaitsAtPicks (afterCalls (freshState T) (callsIn before)) (callsIn stretch) i →
+      owed T i (bytesSent (afterCalls (freshState T) (callsIn before)) (callsIn stretch))
+      ≤ flowSent (afterCalls (freshState T) (callsIn before)) (callsIn stretch) i
   file-floor before stretch = demand-3 (freshState T) (fresh-state-sound ranged) (callsIn before) (callsIn stretch)
 
   -- ---- its lines: what line 3 tells, at the end
@@ -80,7 +82,9 @@ module _ (b : List ℕ) (ok : fileAnswer b .refusal ≡ 0) where
 
   -- .. and each accepted event its own S line: a flow's packets are sent in the order of its accepted events, each once
   pub file-in-turn : (i : ℕ) → i < T .n → acceptedTo T (runCalls b) fresh i ≡ sentTo T (runCalls b) fresh i
-  file-in-turn i i<n = all-in-turn T i i<n (runCalls b) fresh (fresh-sound ranged) (fresh-waits (T .n)) (run-empties T ranged (eventsIn b) (file-sorted b ok))
+  file-in-turn i i<n =
+      all-in-turn T i i<n (runCalls b) fresh (fresh-sound ranged) (fresh-waits (T .n))
+      (run-empties T ranged (eventsIn b) (file-sorted b ok))
 
   pub file-listing : runListing b ≡ linesOf T (runCalls b) fresh ++ endLine count
   file-listing = listing-is T (runCalls b) fresh (tally 0 0 0)
@@ -93,9 +97,11 @@ module _ (b : List ℕ) (ok : fileAnswer b .refusal ≡ 0) where
   pub file-sent : count .sent ≡ length (ends T (runCalls b) fresh)
   file-sent = omega (arith, ends-count T (runCalls b) fresh (tally 0 0 0))
 
-  -- "The tick of line 3 is the end of the last packet sent; .. On a run without any sending it is the latest event's tick, or 0 with no event."
+  -- "The tick of line 3 is the end of the last packet sent; .. On a run without any sending it is the latest event's tick, or 0 with no
+  -- event."
   tick : count .last ≡ lastOf (lastOf 0 (ticksOf (eventsIn b))) (ends T (runCalls b) fresh)
-  tick = last-is T (runCalls b) fresh (tally 0 0 0) refl ∙ ap (λ (es : List _). lastOf (lastOf 0 (ticksOf es)) (ends T (runCalls b) fresh)) file-books
+  tick = last-is T (runCalls b) fresh (tally 0 0 0) refl
+      ∙ ap (λ (es : List _). lastOf (lastOf 0 (ticksOf es)) (ends T (runCalls b) fresh)) file-books
 
   pub tick-sent : (e : ℕ) (es : List ℕ) → ends T (runCalls b) fresh ≡ e ∷ es → count .last ≡ lastOf e es
   tick-sent e es h = tick ∙ ap (lastOf (lastOf 0 (ticksOf (eventsIn b)))) h
@@ -104,9 +110,12 @@ module _ (b : List ℕ) (ok : fileAnswer b .refusal ≡ 0) where
   tick-unsent h = tick ∙ ap (lastOf (lastOf 0 (ticksOf (eventsIn b)))) h
 
   pub tick-no-event : eventCount b ≡ 0 → count .last ≡ 0
-  tick-no-event none = by (ends T (runCalls b) fresh) (omega (arith, file-sent, file-lines)) (eventsIn b) (omega (arith, events-length (drop (eventOffset b) b) 0 (eventCount b))) tick
+  tick-no-event none =
+      by (ends T (runCalls b) fresh) (omega (arith, file-sent, file-lines)) (eventsIn b)
+      (omega (arith, events-length (drop (eventOffset b) b) 0 (eventCount b))) tick
     where
-      by : (xs : List ℕ) → length xs ≡ 0 → (es : List _) → length es ≡ 0 → count .last ≡ lastOf (lastOf 0 (ticksOf es)) xs → count .last ≡ 0
+      by : (xs : List ℕ) → length xs ≡ 0 → (es : List _) → length es ≡ 0 → count .last ≡ lastOf (lastOf 0 (ticksOf es)) xs →
+          count .last ≡ 0
       by [] p [] q h = h
       by (x ∷ xs) p es q h = absurd (omega arith)
       by [] p (e ∷ es) q h = absurd (omega arith)

@@ -8,7 +8,7 @@ use borrow.Author.Tests.{eqb-true}
 use lib.Dec.{eqb}
 use lib.ListN.{length, take, length-append}
 use Rattle.drr.specs.declared.Table.{Table}
-use Rattle.drr.specs.State.{Line, waitingOf, rowOf, charge, stateFrom}
+use Rattle.drr.specs.State.{Line, waitingOf, rowOf, lengthsIn, charge, stateFrom}
 use Rattle.drr.specs.Facts.{Sound}
 use Rattle.drr.specs.Answers.{Answer, lengthIn, reply}
 use Rattle.drr.specs.Arrival.{arrivalOf}
@@ -19,16 +19,17 @@ use Rattle.drr.proofs.Keeps.{arrival-keeps, pick-keeps}
 use Rattle.drr.proofs.Waiting.{waitingAll, PickedAs, idled, gave, pick-as}
 use Rattle.drr.proofs.Sums.{sum-at}
 use Rattle.drr.proofs.Steps.{low}
-use Rattle.drr.proofs.Service.{lengthsIn}
 use Rattle.drr.proofs.Demand3.{calls-keep, reply-is}
 use Rattle.drr.proofs.Rows.{pick-takes, arrival-adds}
 use Rattle.runfile.specs.declared.turns.Tally.{Tally}
 use Rattle.runfile.specs.Run.{Act, comes, asks, outcomeOf, bookedIn, callIn, callsIn}
-use Rattle.runfile.specs.Listing.{tally, startLine, lineFor, afterEvent, afterPick, afterAct, tallyAfter, endLine, linesOf, listing, ends, ticksOf, lastOf, acceptedTo, sentTo}
+use Rattle.runfile.specs.Listing.{tally, startLine, lineFor, afterEvent, afterPick, afterAct, tallyAfter, endLine, linesOf}
+use Rattle.runfile.specs.Listing.{listing, ends, ticksOf, lastOf, acceptedTo, sentTo}
 use Rattle.runfile.proofs.Going.{lines, arrival-waits}
 
 -- a call on the line is document 01's call on the state made of it
-pub act-is-call : (T : Table) (l : Line) → Sound T l → (k : Act) → replyTo (stateFrom T l) (callIn k) ≡ reply (outcomeOf T l k .answer) (stateFrom T (outcomeOf T l k .line))
+pub act-is-call : (T : Table) (l : Line) → Sound T l → (k : Act) →
+    replyTo (stateFrom T l) (callIn k) ≡ reply (outcomeOf T l k .answer) (stateFrom T (outcomeOf T l k .line))
 act-is-call T l ok k = reply-is T l ok (callIn k)
 
 -- the count after a packet sent at t
@@ -40,21 +41,25 @@ event-counts : (y : Tally) (b : Bool) → y .sent + cond b (y .refused) (y .refu
 event-counts y true = omega arith
 event-counts y false = omega arith
 
-event-line : (y : Tally) (tick flow len r : ℕ) (b : Bool) → length (cond b [] (2 ∷ tick ∷ flow ∷ len ∷ r ∷ 0 ∷ [])) + 6 * lines y ≡ 6 * (y .sent + cond b (y .refused) (y .refused + 1))
+event-line : (y : Tally) (tick flow len r : ℕ) (b : Bool) →
+    length (cond b [] (2 ∷ tick ∷ flow ∷ len ∷ r ∷ 0 ∷ [])) + 6 * lines y ≡ 6 * (y .sent + cond b (y .refused) (y .refused + 1))
 event-line y tick flow len r true = omega arith
 event-line y tick flow len r false = omega arith
 
-pick-counts : (t : ℕ) (y : Tally) (l : Line) (a : Answer) (l' : Line) → PickedAs l a l' → lines (afterPick t a y) + waitingAll l' ≡ lines y + waitingAll l
+pick-counts : (t : ℕ) (y : Tally) (l : Line) (a : Answer) (l' : Line) → PickedAs l a l' →
+    lines (afterPick t a y) + waitingAll l' ≡ lines y + waitingAll l
 pick-counts t y l a l' (idled e x z) = rw e (omega (arith, x, z))
 pick-counts t y l a l' (gave f len d v e less most) = rw e (omega (arith, less))
 
-pick-line : (t : ℕ) (y : Tally) (l : Line) (a : Answer) (l' : Line) → PickedAs l a l' → length (startLine t a) + 6 * lines y ≡ 6 * lines (afterPick t a y)
+pick-line : (t : ℕ) (y : Tally) (l : Line) (a : Answer) (l' : Line) → PickedAs l a l' →
+    length (startLine t a) + 6 * lines y ≡ 6 * lines (afterPick t a y)
 pick-line t y l a l' (idled e x z) = rw e (omega arith)
 pick-line t y l a l' (gave f len d v e less most) = rw e (omega arith)
 
 module _ (T : Table) where
   -- ---- at every point, the lines written and the packets that wait are the events booked
-  pub each-one : (ks : List Act) (l : Line) (y : Tally) → Sound T l → lines (tallyAfter T ks l y) + waitingAll (lineAfter T l (callsIn ks)) ≡ lines y + waitingAll l + length (bookedIn ks)
+  pub each-one : (ks : List Act) (l : Line) (y : Tally) → Sound T l →
+      lines (tallyAfter T ks l y) + waitingAll (lineAfter T l (callsIn ks)) ≡ lines y + waitingAll l + length (bookedIn ks)
   each-one [] l y ok = omega arith
   each-one (comes a f n ∷ ks) l y ok =
       omega (
@@ -75,10 +80,13 @@ module _ (T : Table) where
   unfolding listing
   listing-is [] l y = refl
   listing-is (k ∷ ks) l y =
-      ap (λ (xs : List ℕ). lineFor k (outcomeOf T l k .answer) ++ xs) (listing-is ks (outcomeOf T l k .line) (afterAct k (outcomeOf T l k .answer) y))
-      ∙ sym (append-assoc (lineFor k (outcomeOf T l k .answer)) (linesOf T ks (outcomeOf T l k .line)) (endLine (tallyAfter T ks (outcomeOf T l k .line) (afterAct k (outcomeOf T l k .answer) y))))
+      ap (λ (xs : List ℕ). lineFor k (outcomeOf T l k .answer) ++ xs)
+      (listing-is ks (outcomeOf T l k .line) (afterAct k (outcomeOf T l k .answer) y))
+      ∙ sym (append-assoc (lineFor k (outcomeOf T l k .answer)) (linesOf T ks (outcomeOf T l k .line))
+      (endLine (tallyAfter T ks (outcomeOf T l k .line) (afterAct k (outcomeOf T l k .answer) y))))
 
-  pub lines-length : (ks : List Act) (l : Line) (y : Tally) → Sound T l → length (linesOf T ks l) + 6 * lines y ≡ 6 * lines (tallyAfter T ks l y)
+  pub lines-length : (ks : List Act) (l : Line) (y : Tally) → Sound T l →
+      length (linesOf T ks l) + 6 * lines y ≡ 6 * lines (tallyAfter T ks l y)
   lines-length [] l y ok = omega arith
   lines-length (comes a f n ∷ ks) l y ok =
       simp length-append (omega (
@@ -130,7 +138,8 @@ module _ (T : Table) where
       go true on = on (sentOne t a y) (omega arith)
 
   -- .. or, where none was sent, the tick of the latest event
-  pub last-is : (ks : List Act) (l : Line) (y : Tally) → y .sent ≡ 0 → tallyAfter T ks l y .last ≡ lastOf (lastOf (y .last) (ticksOf (bookedIn ks))) (ends T ks l)
+  pub last-is : (ks : List Act) (l : Line) (y : Tally) → y .sent ≡ 0 →
+      tallyAfter T ks l y .last ≡ lastOf (lastOf (y .last) (ticksOf (bookedIn ks))) (ends T ks l)
   last-is [] l y none = refl
   last-is (comes a f n ∷ ks) l y none =
       last-is ks (arrivalOf T l f n .line) (afterEvent a (arrivalOf T l f n .answer .refusal) y) none
@@ -151,17 +160,22 @@ module _ (T : Table) where
 
 -- ---- first in, first out: flow i's packets are sent in the order of its accepted events, each once
 module _ (T : Table) (i : ℕ) (i<n : i < T .n) where
-  pub in-turn : (ks : List Act) (l : Line) → Sound T l → lengthsIn l i ++ acceptedTo T ks l i ≡ sentTo T ks l i ++ lengthsIn (lineAfter T l (callsIn ks)) i
+  pub in-turn : (ks : List Act) (l : Line) → Sound T l →
+      lengthsIn l i ++ acceptedTo T ks l i ≡ sentTo T ks l i ++ lengthsIn (lineAfter T l (callsIn ks)) i
   in-turn [] l ok = append-nil (lengthsIn l i)
   in-turn (comes a f n ∷ ks) l ok =
       let more = addedTo (arrivalOf T l f n .answer .refusal) f n i in
       let l₁ = arrivalOf T l f n .line in
-      sym (append-assoc (lengthsIn l i) more (acceptedTo T ks l₁ i)) ∙ ap (λ (xs : List ℕ). xs ++ acceptedTo T ks l₁ i) (sym (arrival-adds T i i<n l ok f n)) ∙ in-turn ks l₁ (arrival-keeps T l ok f n)
+      sym (append-assoc (lengthsIn l i) more (acceptedTo T ks l₁ i))
+      ∙ ap (λ (xs : List ℕ). xs ++ acceptedTo T ks l₁ i) (sym (arrival-adds T i i<n l ok f n))
+      ∙ in-turn ks l₁ (arrival-keeps T l ok f n)
   in-turn (asks t ∷ ks) l ok =
       let gone = givenIn (pickOf T l .answer) i in
       let l₁ = pickOf T l .line in
-      ap (λ (xs : List ℕ). xs ++ acceptedTo T ks l₁ i) (pick-takes T i i<n l ok) ∙ append-assoc gone (lengthsIn l₁ i) (acceptedTo T ks l₁ i)
-      ∙ ap (λ (xs : List ℕ). gone ++ xs) (in-turn ks l₁ (pick-keeps T l ok)) ∙ sym (append-assoc gone (sentTo T ks l₁ i) (lengthsIn (lineAfter T l₁ (callsIn ks)) i))
+      ap (λ (xs : List ℕ). xs ++ acceptedTo T ks l₁ i) (pick-takes T i i<n l ok)
+      ∙ append-assoc gone (lengthsIn l₁ i) (acceptedTo T ks l₁ i)
+      ∙ ap (λ (xs : List ℕ). gone ++ xs) (in-turn ks l₁ (pick-keeps T l ok))
+      ∙ sym (append-assoc gone (sentTo T ks l₁ i) (lengthsIn (lineAfter T l₁ (callsIn ks)) i))
 
   no-lengths : (l : Line) → Sound T l → waitingAll l ≡ 0 → lengthsIn l i ≡ []
   no-lengths l ok h =
@@ -169,7 +183,9 @@ module _ (T : Table) (i : ℕ) (i<n : i < T .n) where
       ap (λ (k : ℕ). take k (rowOf l i)) none
 
   -- from a line on which nothing waits to another
-  pub all-in-turn : (ks : List Act) (l : Line) → Sound T l → waitingAll l ≡ 0 → waitingAll (lineAfter T l (callsIn ks)) ≡ 0 → acceptedTo T ks l i ≡ sentTo T ks l i
+  pub all-in-turn : (ks : List Act) (l : Line) → Sound T l → waitingAll l ≡ 0 → waitingAll (lineAfter T l (callsIn ks)) ≡ 0 →
+      acceptedTo T ks l i ≡ sentTo T ks l i
   all-in-turn ks l ok before after =
       ap (λ (xs : List ℕ). xs ++ acceptedTo T ks l i) (sym (no-lengths l ok before)) ∙ in-turn ks l ok
-      ∙ ap (λ (xs : List ℕ). sentTo T ks l i ++ xs) (no-lengths (lineAfter T l (callsIn ks)) (calls-keep T l ok (callsIn ks)) after) ∙ append-nil (sentTo T ks l i)
+      ∙ ap (λ (xs : List ℕ). sentTo T ks l i ++ xs) (no-lengths (lineAfter T l (callsIn ks)) (calls-keep T l ok (callsIn ks)) after)
+      ∙ append-nil (sentTo T ks l i)

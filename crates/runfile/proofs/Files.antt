@@ -57,15 +57,21 @@ header-fine b e = let p = passed b e in rw (p .size, p .stated, p .zeroed, p .fl
 -- tables that lie as they should lie inside the file
 inside : (n m fo eo size : ℕ) → tablesb n m fo eo size ≡ true → (fo + 8 * n ≤ size) × (eo + 8 * m ≤ size)
 inside n m fo eo size e =
-    let both = and-right ((eqb (fo % 4) 0 && eqb (eo % 4) 0) && (leb headerSize fo && leb headerSize eo)) (leb (fo + 8 * n) size && leb (eo + 8 * m) size) (and-left ((eqb (fo % 4) 0 && eqb (eo % 4) 0) && (leb headerSize fo && leb headerSize eo) && (leb (fo + 8 * n) size && leb (eo + 8 * m) size)) (eqb n 0 || eqb m 0 || leb (fo + 8 * n) eo || leb (eo + 8 * m) fo) e) in
-    (leb-true (fo + 8 * n) size (and-left (leb (fo + 8 * n) size) (leb (eo + 8 * m) size) both), leb-true (eo + 8 * m) size (and-right (leb (fo + 8 * n) size) (leb (eo + 8 * m) size) both))
+    let both = and-right ((eqb (fo % 4) 0 && eqb (eo % 4) 0) && (leb headerSize fo && leb headerSize eo))
+    (leb (fo + 8 * n) size && leb (eo + 8 * m) size)
+    (and-left ((eqb (fo % 4) 0 && eqb (eo % 4) 0) && (leb headerSize fo && leb headerSize eo) &&
+    (leb (fo + 8 * n) size && leb (eo + 8 * m) size)) (eqb n 0 || eqb m 0 || leb (fo + 8 * n) eo || leb (eo + 8 * m) fo) e) in (
+      leb-true (fo + 8 * n) size (and-left (leb (fo + 8 * n) size) (leb (eo + 8 * m) size) both),
+      leb-true (eo + 8 * m) size (and-right (leb (fo + 8 * n) size) (leb (eo + 8 * m) size) both),
+    )
 
 pub laid : (b : List ℕ) → headerAnswer b .refusal ≡ 0 → Laid b
 laid b e =
     let p = passed b e in
     let n = flowCount b in
     let m = eventCount b in
-    let lie = inside n m (flowOffset b) (eventOffset b) (length b) (not-false (tablesb n m (flowOffset b) (eventOffset b) (length b)) (p .tables)) in
+    let lie = inside n m (flowOffset b) (eventOffset b) (length b)
+    (not-false (tablesb n m (flowOffset b) (eventOffset b) (length b)) (p .tables)) in
     record {
       long = ltb-false (length b) headerSize (or-left (ltb (length b) headerSize) (ltb mostBytes (length b)) (p .size));
       short = ltb-false mostBytes (length b) (or-right (ltb (length b) headerSize) (ltb mostBytes (length b)) (p .size));

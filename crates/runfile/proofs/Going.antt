@@ -41,7 +41,8 @@ pub arrival-waits : (T : Table) (l : Line) → Sound T l → (f len : ℕ) →
 unfolding arrivalOf
 arrival-waits T l ok f len =
     by-test P (leb (T .n) f) (λ _. none) (λ a. by-test P (eqb len 0) (λ _. none) (λ _.
-    by-test P (ltb (maximumOf T f) len) (λ _. none) (λ _. by-test P (leb 32 (waitingOf l f)) (λ _. none) (λ _. put-waits T l ok f len (leb-false (T .n) f a)))))
+    by-test P (ltb (maximumOf T f) len) (λ _. none)
+    (λ _. by-test P (leb 32 (waitingOf l f)) (λ _. none) (λ _. put-waits T l ok f len (leb-false (T .n) f a)))))
   where
     P : Outcome → Type 0
     P o = waitingAll (o .line) ≡ waitingAll l + cond (eqb (o .answer .refusal) 0) 1 0
@@ -68,9 +69,11 @@ events-length t at (suc k) = ap suc (events-length t (at + 1) k)
 module _ (o v : List ℕ) (k : ℕ) (fits : 6 * k + length v ≤ length o) where
   moved : (k' : ℕ) → 6 * k' ≡ 6 * k + length v → (X : List ℕ) → take (6 * k') (written o k v) ++ X ≡ take (6 * k) o ++ (v ++ X)
   moved k' e X =
-      ap (λ (i : ℕ). take i (written o k v) ++ X) e ∙ ap (λ (l : List ℕ). l ++ X) (written-front o v k fits) ∙ append-assoc (take (6 * k) o) v X
+      ap (λ (i : ℕ). take i (written o k v) ++ X) e ∙ ap (λ (l : List ℕ). l ++ X) (written-front o v k fits)
+      ∙ append-assoc (take (6 * k) o) v X
 
-  kept : (k' : ℕ) → 6 * k' ≡ 6 * k + length v → (o₀ : List ℕ) → drop (6 * k) o ≡ drop (6 * k) o₀ → drop (6 * k') (written o k v) ≡ drop (6 * k') o₀
+  kept : (k' : ℕ) → 6 * k' ≡ 6 * k + length v → (o₀ : List ℕ) → drop (6 * k) o ≡ drop (6 * k) o₀ →
+      drop (6 * k') (written o k v) ≡ drop (6 * k') o₀
   kept k' e o₀ h =
       ap (λ (i : ℕ). drop i (written o k v)) e ∙ written-back o v k fits
       ∙ sym (drop-drop (length v) (6 * k) o) ∙ ap (drop (length v)) h ∙ drop-drop (length v) (6 * k) o₀
@@ -224,18 +227,26 @@ module _ (H : Here) where
     unfolding calls listing
     step-books k =
         ap (λ (es : List Event). listing T (calls (suc k) T (free now) es l) l y) (left-more t m at more)
-        ∙ ap (λ (b : Bool). listing T (cond b (comes (ev .tick) (ev .flow) (ev .length) ∷ calls k T (free now) (left t m (at + 1)) (arrivalOf T l (ev .flow) (ev .length) .line)) (asks now ∷ calls k T (onward now (pickOf T l .answer)) (ev ∷ left t m (at + 1)) (pickOf T l .line))) l y) (le-leb (ev .tick) now has-come)
-        ∙ ap (λ (z : Outcome). dropLine (ev .tick) (ev .flow) (ev .length) (z .answer .refusal) ++ listing T (calls k T (free now) (left t m (at + 1)) (z .line)) (z .line) (afterEvent (ev .tick) (z .answer .refusal) y)) (sym e)
+        ∙ ap (λ (b : Bool). listing T
+        (cond b (comes (ev .tick) (ev .flow) (ev .length) ∷ calls k T (free now) (left t m (at + 1))
+        (arrivalOf T l (ev .flow) (ev .length) .line))
+        (asks now ∷ calls k T (onward now (pickOf T l .answer)) (ev ∷ left t m (at + 1)) (pickOf T l .line))) l y)
+        (le-leb (ev .tick) now has-come)
+        ∙ ap (λ (z : Outcome). dropLine (ev .tick) (ev .flow) (ev .length) (z .answer .refusal)
+        ++ listing T (calls k T (free now) (left t m (at + 1)) (z .line)) (z .line) (afterEvent (ev .tick) (z .answer .refusal) y)) (sym e)
 
     -- by whether it is accepted: the lines written, the packets waiting
-    sizes : (b : Bool) → (6 * (y .sent + cond b (y .refused) (y .refused + 1)) ≡ 6 * lines y + length (cond b [] (2 ∷ ev .tick ∷ ev .flow ∷ ev .length ∷ a .refusal ∷ 0 ∷ [])))
+    sizes : (b : Bool) →
+        (6 * (y .sent + cond b (y .refused) (y .refused + 1))
+        ≡ 6 * lines y + length (cond b [] (2 ∷ ev .tick ∷ ev .flow ∷ ev .length ∷ a .refusal ∷ 0 ∷ [])))
         × (length (cond b [] (2 ∷ ev .tick ∷ ev .flow ∷ ev .length ∷ a .refusal ∷ 0 ∷ [])) ≤ 6)
         × (y .sent + cond b (y .refused) (y .refused + 1) + cond b 1 0 ≡ lines y + 1)
     sizes true = (omega arith, omega arith, omega arith)
     sizes false = (omega arith, omega arith, omega arith)
 
     waits : waitingAll l' ≡ waitingAll l + cond (eqb (a .refusal) 0) 1 0
-    waits = subst (λ (z : Outcome). waitingAll (z .line) ≡ waitingAll l + cond (eqb (z .answer .refusal) 0) 1 0) (sym e) (arrival-waits T l (h .sound) (ev .flow) (ev .length))
+    waits = subst (λ (z : Outcome). waitingAll (z .line) ≡ waitingAll l + cond (eqb (z .answer .refusal) 0) 1 0) (sym e)
+        (arrival-waits T l (h .sound) (ev .flow) (ev .length))
 
     one : (b : Bool) → cond b 1 0 ≤ 1
     one true = omega arith
@@ -261,7 +272,8 @@ module _ (H : Here) where
           now-most = h .now-most;
           fuel = k;
           enough-fuel = omega (arith, h .enough-fuel, waits, one (eqb (a .refusal) 0), late-most t m now (at + 1));
-          rest = moved o v (lines y) fits (lines y') (z .0) _ ∙ ap (λ (r : List ℕ). take (6 * lines y) o ++ r) (sym (step-books k)) ∙ rest-at (suc k) q;
+          rest = moved o v (lines y) fits (lines y') (z .0) _ ∙ ap (λ (r : List ℕ). take (6 * lines y) o ++ r) (sym (step-books k))
+              ∙ rest-at (suc k) q;
         }
 
     pub books-less : ahead-at now (at + 1) l' < ahead-at now at l
@@ -269,7 +281,9 @@ module _ (H : Here) where
 
   -- ---- no event has come: a pick is made
   module _ (later : Later t m now at) (a : Answer) (l' : Line) (e : outcome a l' ≡ pickOf T l) where
-    asks-next : (k : ℕ) → calls (suc k) T (free now) (left t m at) l ≡ asks now ∷ calls k T (onward now (pickOf T l .answer)) (left t m at) (pickOf T l .line)
+    asks-next : (k : ℕ) →
+        calls (suc k) T (free now) (left t m at) l
+        ≡ asks now ∷ calls k T (onward now (pickOf T l .answer)) (left t m at) (pickOf T l .line)
     unfolding calls
     asks-next k = ⊎-elim
         (λ more. rw (left-more t m at more) (rw (lt-leb (eventAt t at .tick) now (later more)) refl))
@@ -280,7 +294,8 @@ module _ (H : Here) where
     unfolding listing
     step-picks k =
         ap (λ (ks : List Act). listing T ks l y) (asks-next k)
-        ∙ ap (λ (z : Outcome). startLine now (z .answer) ++ listing T (calls k T (onward now (z .answer)) (left t m at) (z .line)) (z .line) (afterPick now (z .answer) y)) (sym e)
+        ∙ ap (λ (z : Outcome). startLine now (z .answer)
+        ++ listing T (calls k T (onward now (z .answer)) (left t m at) (z .line)) (z .line) (afterPick now (z .answer) y)) (sym e)
 
     picked : PickedAs l a l'
     picked = subst (λ (z : Outcome). PickedAs l (z .answer) (z .line)) (sym e) (pick-as T l (h .sound))
@@ -303,7 +318,8 @@ module _ (H : Here) where
     pub sent-most : len ≤ mostMaximum
     sent-most = sent-is .0
 
-    pub inside-sends : (o' : List ℕ) → o' ≡ written o (lines y) (1 ∷ now ∷ f ∷ len ∷ d ∷ w ∷ []) → On (now + len) at (tally (y .sent + 1) (y .refused) (now + len)) l' o'
+    pub inside-sends : (o' : List ℕ) → o' ≡ written o (lines y) (1 ∷ now ∷ f ∷ len ∷ d ∷ w ∷ []) →
+        On (now + len) at (tally (y .sent + 1) (y .refused) (now + len)) l' o'
     inside-sends o' is = subst (On (now + len) at (tally (y .sent + 1) (y .refused) (now + len)) l') (sym is) (by (h .fuel) refl)
       where
         v : List ℕ
@@ -326,7 +342,8 @@ module _ (H : Here) where
           now-most = omega (arith, h .now-most, sent-most);
           fuel = k;
           enough-fuel = omega (arith, some-fuel later (sentAs f len d w) l' e (suc k) q, sent-is .1, late-most t m (now + len) at);
-          rest = moved o v (lines y) line-fits k' next _ ∙ ap (λ (r : List ℕ). take (6 * lines y) o ++ r) (sym (step-picks later (sentAs f len d w) l' e k)) ∙ rest-at (suc k) q;
+          rest = moved o v (lines y) line-fits k' next _
+              ∙ ap (λ (r : List ℕ). take (6 * lines y) o ++ r) (sym (step-picks later (sentAs f len d w) l' e k)) ∙ rest-at (suc k) q;
         }
 
     pub sends-less : ahead-at (now + len) at l' < ahead-at now at l
@@ -365,21 +382,25 @@ module _ (H : Here) where
             now-most = omega arith;
             fuel = suc k;
             enough-fuel = omega (arith, some-fuel later idle l' e (suc (suc k)) q, idle-is .0, late-not t m tick at more (omega arith));
-            rest = ap (λ (r : List ℕ). take (6 * lines y) o ++ r) (ap (λ (ks : List Act). listing T ks l' y) (sym (jumps k)) ∙ sym (step-picks later idle l' e (suc k))) ∙ rest-at (suc (suc k)) q;
+            rest = ap (λ (r : List ℕ). take (6 * lines y) o ++ r) (ap (λ (ks : List Act). listing T ks l' y) (sym (jumps k))
+                ∙ sym (step-picks later idle l' e (suc k))) ∙ rest-at (suc (suc k)) q;
           }
 
       pub jumps-less : ahead-at tick at l' < ahead-at now at l
       jumps-less = omega (arith, idle-is .0, late-not t m tick at more (omega arith), late-is t m now at later)
 
     -- with none left, the run ends
-    pub run-ends : m ≤ at → (o' : List ℕ) → o' ≡ written o (lines y) (3 ∷ y .last ∷ y .sent ∷ y .refused ∷ 0 ∷ 0 ∷ []) → o' ≡ L ++ drop (6 * (m + 1)) o₀
-    run-ends none o' is = is ∙ ap (λ (r : List ℕ). r ++ drop (6 * lines y + 6) o) (last-line (h .fuel) refl) ∙ ap (λ (r : List ℕ). L ++ r) behind'
+    pub run-ends : m ≤ at → (o' : List ℕ) → o' ≡ written o (lines y) (3 ∷ y .last ∷ y .sent ∷ y .refused ∷ 0 ∷ 0 ∷ []) →
+        o' ≡ L ++ drop (6 * (m + 1)) o₀
+    run-ends none o' is =
+        is ∙ ap (λ (r : List ℕ). r ++ drop (6 * lines y + 6) o) (last-line (h .fuel) refl) ∙ ap (λ (r : List ℕ). L ++ r) behind'
       where
         all : lines y ≡ m
         all = omega (arith, h .each-one, idle-is .1, h .at-most)
 
         ends : (k : ℕ) → listing T (calls k T still (left t m at) l') l' y ≡ 3 ∷ y .last ∷ y .sent ∷ y .refused ∷ 0 ∷ 0 ∷ []
-        ends k = ap (λ (es : List Event). listing T (calls k T still es l') l' y) (left-none t m at none) ∙ (ap (λ (ks : List Act). listing T ks l' y) (over T l' k) ∙ closing T l' y)
+        ends k = ap (λ (es : List Event). listing T (calls k T still es l') l' y) (left-none t m at none)
+            ∙ (ap (λ (ks : List Act). listing T ks l' y) (over T l' k) ∙ closing T l' y)
 
         last-line : (fu : ℕ) → h .fuel ≡ fu → take (6 * lines y) o ++ (3 ∷ y .last ∷ y .sent ∷ y .refused ∷ 0 ∷ 0 ∷ []) ≡ L
         last-line zero q = absurd (omega (arith, some-fuel later idle l' e zero q))
@@ -392,19 +413,22 @@ module _ (H : Here) where
             ∙ (let z : 6 * lines y + 6 ≡ 6 * (m + 1) = omega (arith, all) in ap (λ (i : ℕ). drop i o₀) z)
 
   -- ---- the same, as the code takes it: with numbers that it read, widened and counted
-  module _ (tick flow len : ℕ) (is-tick : tick ≡ eventAt t at .tick) (is-flow : flow ≡ eventAt t at .flow) (is-len : len ≡ eventAt t at .length)
+  module _ (tick flow len : ℕ) (is-tick : tick ≡ eventAt t at .tick) (is-flow : flow ≡ eventAt t at .flow)
+      (is-len : len ≡ eventAt t at .length)
       (more : at < m) (has-come : tick ≤ now) (a : Answer) (l' : Line) (e : outcome a l' ≡ arrivalOf T l flow len) where
     e' : outcome a l' ≡ arrivalOf T l (eventAt t at .flow) (eventAt t at .length)
     e' = rw (is-flow, is-len) at e
 
-    pub books : (o' : List ℕ) → o' ≡ written o (lines y) (dropLine tick flow len (a .refusal)) → (r : ℕ) → r ≡ a .refusal → (z : Tally) → z ≡ afterEvent tick r y → On now (at + 1) z l' o'
+    pub books : (o' : List ℕ) → o' ≡ written o (lines y) (dropLine tick flow len (a .refusal)) → (r : ℕ) → r ≡ a .refusal → (z : Tally) →
+        z ≡ afterEvent tick r y → On now (at + 1) z l' o'
     books o' is r is-r z is-z =
         rw (is-z, is-r, is-tick) (inside-books more (rw is-tick at has-come) a l' e' o' (rw (is-tick, is-flow, is-len) at is))
 
     pub booked-less : ahead-at now (at + 1) l' < ahead-at now at l
     booked-less = books-less more (rw is-tick at has-come) a l' e'
 
-  module _ (later : Later t m now at) (a : Answer) (l' : Line) (e : outcome a l' ≡ pickOf T l) (f len d w : ℕ) (told : a ≡ sentAs f len d w) where
+  module _ (later : Later t m now at) (a : Answer) (l' : Line) (e : outcome a l' ≡ pickOf T l) (f len d w : ℕ)
+      (told : a ≡ sentAs f len d w) where
     e″ : outcome (sentAs f len d w) l' ≡ pickOf T l
     e″ = ap (λ (b : Answer). outcome b l') (sym told) ∙ e
 
@@ -420,14 +444,17 @@ module _ (H : Here) where
       sent-less = rw is-size (sends-less later f len d w l' e″)
 
 -- an answer of the pick that is not Sent is idle: a sound line's pick is not refused
-pub not-sent : (T : Table) (l : Line) (a : PickAnswer) (l' : Line) → outcome (pickPaper a) l' ≡ pickOf T l → OneOf (0 ∷ 2 ∷ []) (tagOf pick-answer.the-type a) → outcome idle l' ≡ pickOf T l
+pub not-sent : (T : Table) (l : Line) (a : PickAnswer) (l' : Line) → outcome (pickPaper a) l' ≡ pickOf T l →
+    OneOf (0 ∷ 2 ∷ []) (tagOf pick-answer.the-type a) → outcome idle l' ≡ pickOf T l
 not-sent T l Idle l' e o = e
 not-sent T l (Sent f len d w) l' e o = absurd (miss (0 ∷ 2 ∷ []) 1 tt o)
 not-sent T l (Refused why) l' e o =
-    absurd (let z : numberOf why ≡ 0 = (ap (λ (z : Outcome). z .answer .refusal) e ∙ pick-fine T l) in apart (eq-eqb (numberOf why) 0 z) (number-some why))
+    absurd (let z : numberOf why ≡ 0 = (ap (λ (z : Outcome). z .answer .refusal) e ∙ pick-fine T l) in
+    apart (eq-eqb (numberOf why) 0 z) (number-some why))
 
 -- the start: nothing is written, and all is to come
-pub inside-first : (T : Table) (t : List ℕ) (m : ℕ) (o : List ℕ) → Ranged T → Inside T t m o (eventsListing T (eventsFrom t 0 m)) 0 0 (tally 0 0 0) (freshLine (T .n)) o
+pub inside-first : (T : Table) (t : List ℕ) (m : ℕ) (o : List ℕ) → Ranged T →
+    Inside T t m o (eventsListing T (eventsFrom t 0 m)) 0 0 (tally 0 0 0) (freshLine (T .n)) o
 inside-first T t m o r = record {
   sound = fresh-sound r;
   at-most = omega arith;
@@ -437,5 +464,6 @@ inside-first T t m o r = record {
   now-most = omega arith;
   fuel = enough (eventsFrom t 0 m);
   enough-fuel = omega (arith, events-length t 0 m, late-most t m 0 0, fresh-waits (T .n));
-  rest = ap (λ (k : ℕ). listing T (calls (enough (eventsFrom t 0 m)) T (free 0) (eventsFrom t 0 k) (freshLine (T .n))) (freshLine (T .n)) (tally 0 0 0)) (sub-zero m);
+  rest = ap (λ (k : ℕ). listing T (calls (enough (eventsFrom t 0 m)) T (free 0) (eventsFrom t 0 k) (freshLine (T .n))) (freshLine (T .n))
+      (tally 0 0 0)) (sub-zero m);
 }

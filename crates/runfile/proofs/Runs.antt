@@ -1,4 +1,5 @@
--- The run as the list of its timed calls: it is timed, it books every event, it is the only such list, it leaves nothing waiting; and its counts.
+-- The run as the list of its timed calls: it is timed, it books every event, it is the only such list, it leaves nothing waiting; and its
+-- counts.
 use mathlib.Core.Path.{_≡_, refl, sym, ap, subst, _∙_}
 use mathlib.Core.Bool.{Bool, true, false, cond}
 use mathlib.Core.List.{List, [], _∷_}
@@ -34,13 +35,15 @@ abbrev pending : Clock → ℕ
 pending still = 0
 pending (free t) = 1
 
-pick-fuel : (t k : ℕ) (l : Line) (a : Answer) (l' : Line) (m : ℕ) → PickedAs l a l' → m + 2 * waitingAll l + 1 ≤ suc k → m + 2 * waitingAll l' + pending (onward t a) ≤ k
+pick-fuel : (t k : ℕ) (l : Line) (a : Answer) (l' : Line) (m : ℕ) → PickedAs l a l' → m + 2 * waitingAll l + 1 ≤ suc k →
+    m + 2 * waitingAll l' + pending (onward t a) ≤ k
 pick-fuel t k l a l' m (idled e x y) h = rw e (omega (arith, x, y))
 pick-fuel t k l a l' m (gave f len d v e less most) h = rw e (omega (arith, less))
 
 module _ (T : Table) where
   -- ---- the calls are timed
-  pub calls-timed : (k : ℕ) (c : Clock) (low : ℕ) (es : List Event) (l : Line) → Sound T l → Sorted low es → 4 * length es + 2 * waitingAll l + pending c ≤ k → Timed T low c (calls k T c es l) l
+  pub calls-timed : (k : ℕ) (c : Clock) (low : ℕ) (es : List Event) (l : Line) → Sound T l → Sorted low es →
+      4 * length es + 2 * waitingAll l + pending c ≤ k → Timed T low c (calls k T c es l) l
   unfolding calls
   calls-timed zero still low [] l ok so m = tt
   calls-timed zero still low (e ∷ es) l ok so m = absurd (omega arith)
@@ -48,7 +51,8 @@ module _ (T : Table) where
   calls-timed (suc k) still low [] l ok so m = tt
   calls-timed (suc k) still low (e ∷ es) l ok so m = (
     so .0,
-    calls-timed k (free (e .tick)) (e .tick) es (arrivalOf T l (e .flow) (e .length) .line) (arrival-keeps T l ok (e .flow) (e .length)) (so .1)
+    calls-timed k (free (e .tick)) (e .tick) es (arrivalOf T l (e .flow) (e .length) .line) (arrival-keeps T l ok (e .flow) (e .length))
+        (so .1)
         (omega (arith, arrival-most T l ok (e .flow) (e .length))),
   )
   calls-timed (suc k) (free t) low [] l ok so m = (
@@ -67,34 +71,43 @@ module _ (T : Table) where
       l₁ = arrivalOf T l (e .flow) (e .length) .line
 
       by : (b : Bool) → leb (e .tick) t ≡ b → Timed T (e .tick) (free t) (calls k T (free t) es l₁) l₁ →
-          (suc t ≤ e .tick → Timed T (suc t) (onward t (pickOf T l .answer)) (calls k T (onward t (pickOf T l .answer)) (e ∷ es) (pickOf T l .line)) (pickOf T l .line)) →
-          Timed T low (free t) (cond b (comes (e .tick) (e .flow) (e .length) ∷ calls k T (free t) es l₁) (asks t ∷ calls k T (onward t (pickOf T l .answer)) (e ∷ es) (pickOf T l .line))) l
+          (suc t ≤ e .tick → Timed T (suc t) (onward t (pickOf T l .answer))
+          (calls k T (onward t (pickOf T l .answer)) (e ∷ es) (pickOf T l .line)) (pickOf T l .line)) →
+          Timed T low (free t)
+          (cond b (comes (e .tick) (e .flow) (e .length) ∷ calls k T (free t) es l₁)
+          (asks t ∷ calls k T (onward t (pickOf T l .answer)) (e ∷ es) (pickOf T l .line))) l
       by true q book ask = (so .0, leb-true (e .tick) t q, book)
       by false q book ask = (refl, ask (leb-false (e .tick) t q))
 
   -- ---- .. and book every event, in the file's order
-  pub calls-book : (k : ℕ) (c : Clock) (es : List Event) (l : Line) → Sound T l → 4 * length es + 2 * waitingAll l + pending c ≤ k → bookedIn (calls k T c es l) ≡ es
+  pub calls-book : (k : ℕ) (c : Clock) (es : List Event) (l : Line) → Sound T l → 4 * length es + 2 * waitingAll l + pending c ≤ k →
+      bookedIn (calls k T c es l) ≡ es
   unfolding calls
   calls-book zero still [] l ok m = refl
   calls-book zero still (e ∷ es) l ok m = absurd (omega arith)
   calls-book zero (free t) es l ok m = absurd (omega arith)
   calls-book (suc k) still [] l ok m = refl
   calls-book (suc k) still (e ∷ es) l ok m =
-      ap (λ (xs : List Event). e ∷ xs) (calls-book k (free (e .tick)) es (arrivalOf T l (e .flow) (e .length) .line) (arrival-keeps T l ok (e .flow) (e .length))
+      ap (λ (xs : List Event). e ∷ xs)
+      (calls-book k (free (e .tick)) es (arrivalOf T l (e .flow) (e .length) .line) (arrival-keeps T l ok (e .flow) (e .length))
       (omega (arith, arrival-most T l ok (e .flow) (e .length))))
   calls-book (suc k) (free t) [] l ok m =
-      calls-book k (onward t (pickOf T l .answer)) [] (pickOf T l .line) (pick-keeps T l ok) (pick-fuel t k l (pickOf T l .answer) (pickOf T l .line) 0 (pick-as T l ok) m)
+      calls-book k (onward t (pickOf T l .answer)) [] (pickOf T l .line) (pick-keeps T l ok)
+      (pick-fuel t k l (pickOf T l .answer) (pickOf T l .line) 0 (pick-as T l ok) m)
   calls-book (suc k) (free t) (e ∷ es) l ok m =
       by (leb (e .tick) t)
-      (calls-book k (free t) es (arrivalOf T l (e .flow) (e .length) .line) (arrival-keeps T l ok (e .flow) (e .length)) (omega (arith, arrival-most T l ok (e .flow) (e .length))))
+      (calls-book k (free t) es (arrivalOf T l (e .flow) (e .length) .line) (arrival-keeps T l ok (e .flow) (e .length))
+      (omega (arith, arrival-most T l ok (e .flow) (e .length))))
       (calls-book k (onward t (pickOf T l .answer)) (e ∷ es) (pickOf T l .line) (pick-keeps T l ok)
       (pick-fuel t k l (pickOf T l .answer) (pickOf T l .line) (4 * length (e ∷ es)) (pick-as T l ok) m))
     where
       l₁ : Line
       l₁ = arrivalOf T l (e .flow) (e .length) .line
 
-      by : (b : Bool) → bookedIn (calls k T (free t) es l₁) ≡ es → bookedIn (calls k T (onward t (pickOf T l .answer)) (e ∷ es) (pickOf T l .line)) ≡ e ∷ es →
-          bookedIn (cond b (comes (e .tick) (e .flow) (e .length) ∷ calls k T (free t) es l₁) (asks t ∷ calls k T (onward t (pickOf T l .answer)) (e ∷ es) (pickOf T l .line))) ≡ e ∷ es
+      by : (b : Bool) → bookedIn (calls k T (free t) es l₁) ≡ es →
+          bookedIn (calls k T (onward t (pickOf T l .answer)) (e ∷ es) (pickOf T l .line)) ≡ e ∷ es →
+          bookedIn (cond b (comes (e .tick) (e .flow) (e .length) ∷ calls k T (free t) es l₁)
+          (asks t ∷ calls k T (onward t (pickOf T l .answer)) (e ∷ es) (pickOf T l .line))) ≡ e ∷ es
       by true x y = ap (λ (xs : List Event). e ∷ xs) x
       by false x y = y
 
@@ -124,18 +137,23 @@ module _ (T : Table) where
   booked-sorted [] low still l g h = tt
   booked-sorted [] low (free t) l g h = absurd h
   booked-sorted (comes a f n ∷ ks) low still l g h = (h .0, booked-sorted ks a (free a) (arrivalOf T l f n .line) (omega arith) (h .1))
-  booked-sorted (comes a f n ∷ ks) low (free t) l g h = (h .0, booked-sorted ks a (free t) (arrivalOf T l f n .line) (omega (arith, h .1)) (h .2))
+  booked-sorted (comes a f n ∷ ks) low (free t) l g h =
+      (h .0, booked-sorted ks a (free t) (arrivalOf T l f n .line) (omega (arith, h .1)) (h .2))
   booked-sorted (asks u ∷ ks) low still l g h = absurd h
   booked-sorted (asks u ∷ ks) low (free t) l g h =
-      sorted-from low (suc t) (bookedIn ks) g (booked-sorted ks (suc t) (onward t (pickOf T l .answer)) (pickOf T l .line) (ahead-next t (pickOf T l .answer)) (h .1))
+      sorted-from low (suc t) (bookedIn ks) g
+      (booked-sorted ks (suc t) (onward t (pickOf T l .answer)) (pickOf T l .line) (ahead-next t (pickOf T l .answer)) (h .1))
 
   -- an event at or before t is booked before the pick at t
-  too-late : (ks : List Act) (t : ℕ) (l : Line) (e : Event) (es : List Event) → Timed T (suc t) (onward t (pickOf T l .answer)) ks (pickOf T l .line) → e ∷ es ≡ bookedIn ks → e .tick ≤ t → ⊥
+  too-late : (ks : List Act) (t : ℕ) (l : Line) (e : Event) (es : List Event) →
+      Timed T (suc t) (onward t (pickOf T l .answer)) ks (pickOf T l .line) → e ∷ es ≡ bookedIn ks → e .tick ≤ t → ⊥
   too-late ks t l e es h b early =
-      let so = subst (Sorted (suc t)) (sym b) (booked-sorted ks (suc t) (onward t (pickOf T l .answer)) (pickOf T l .line) (ahead-next t (pickOf T l .answer)) h) in
+      let so = subst (Sorted (suc t)) (sym b)
+      (booked-sorted ks (suc t) (onward t (pickOf T l .answer)) (pickOf T l .line) (ahead-next t (pickOf T l .answer)) h) in
       omega (arith, so .0)
 
-  pub one-timed : (ks js : List Act) (low low' : ℕ) (c : Clock) (l : Line) → Timed T low c ks l → Timed T low' c js l → bookedIn ks ≡ bookedIn js → ks ≡ js
+  pub one-timed : (ks js : List Act) (low low' : ℕ) (c : Clock) (l : Line) → Timed T low c ks l → Timed T low' c js l →
+      bookedIn ks ≡ bookedIn js → ks ≡ js
   one-timed [] [] low low' c l h h' b = refl
   one-timed [] (comes a f n ∷ js) low low' c l h h' b = absurd (let z = ap length b in omega arith)
   one-timed [] (asks u ∷ js) low low' still l h h' b = absurd h'
@@ -171,14 +189,17 @@ module _ (T : Table) where
   quiet-next t l a l' (idled e x y) = rw e x
   quiet-next t l a l' (gave f len d v e less most) = rw e tt
 
-  pub none-left : (ks : List Act) (low : ℕ) (c : Clock) (l : Line) → Sound T l → Quiet c l → Timed T low c ks l → waitingAll (lineAfter T l (callsIn ks)) ≡ 0
+  pub none-left : (ks : List Act) (low : ℕ) (c : Clock) (l : Line) → Sound T l → Quiet c l → Timed T low c ks l →
+      waitingAll (lineAfter T l (callsIn ks)) ≡ 0
   none-left [] low still l ok q h = q
   none-left [] low (free t) l ok q h = absurd h
   none-left (comes a f n ∷ ks) low still l ok q h = none-left ks a (free a) (arrivalOf T l f n .line) (arrival-keeps T l ok f n) tt (h .1)
-  none-left (comes a f n ∷ ks) low (free t) l ok q h = none-left ks a (free t) (arrivalOf T l f n .line) (arrival-keeps T l ok f n) tt (h .2)
+  none-left (comes a f n ∷ ks) low (free t) l ok q h =
+      none-left ks a (free t) (arrivalOf T l f n .line) (arrival-keeps T l ok f n) tt (h .2)
   none-left (asks u ∷ ks) low still l ok q h = absurd h
   none-left (asks u ∷ ks) low (free t) l ok q h =
-      none-left ks (suc t) (onward t (pickOf T l .answer)) (pickOf T l .line) (pick-keeps T l ok) (quiet-next t l (pickOf T l .answer) (pickOf T l .line) (pick-as T l ok)) (h .1)
+      none-left ks (suc t) (onward t (pickOf T l .answer)) (pickOf T l .line) (pick-keeps T l ok)
+      (quiet-next t l (pickOf T l .answer) (pickOf T l .line) (pick-as T l ok)) (h .1)
 
 -- ---- the run of these events on a fresh line
 module _ (T : Table) (ranged : Ranged T) (es : List Event) where

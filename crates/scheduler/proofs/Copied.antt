@@ -35,7 +35,8 @@ abbrev pub copiedAt : List FlowRecord → Terms → ℕ → Copied
 copiedAt xs t i = record { records = paste (replicate 17 none) 0 xs i; at = i; todo = min (length xs) 17; terms = t }
 
 -- ---- a turn
-pub put-next : (xs : List FlowRecord) (t : Terms) (i : ℕ) → i < 17 → i < length xs → putOf (copiedAt xs t i) (getD xs i none) ≡ copiedAt xs t (i + 1)
+pub put-next : (xs : List FlowRecord) (t : Terms) (i : ℕ) → i < 17 → i < length xs →
+    putOf (copiedAt xs t i) (getD xs i none) ≡ copiedAt xs t (i + 1)
 put-next xs t i few l = simp (copy-turn (replicate 17 none) xs i none few l)
 
 -- ---- the end: the first seventeen stand in the array, and setup says of them what it says of the list
@@ -45,11 +46,13 @@ long-same xs ys more more' =
     let b = too-many ys more' in
     λ i. reply ((sym (a .answers) ∙ b .answers) i) (freshState ((sym (a .makes) ∙ b .makes) i))
 
-pub copied-all : (xs : List FlowRecord) (t : Terms) (i : ℕ) → i ≡ min (length xs) 17 → setupReply (take (copiedAt xs t i .at) (copiedAt xs t i .records)) ≡ replyOn t xs
+pub copied-all : (xs : List FlowRecord) (t : Terms) (i : ℕ) → i ≡ min (length xs) 17 →
+    setupReply (take (copiedAt xs t i .at) (copiedAt xs t i .records)) ≡ replyOn t xs
 copied-all xs t i is = ap setupReply first ∙ whole
   where
     first : take i (paste (replicate 17 none) 0 xs i) ≡ take i xs
-    first = ap (λ (k : ℕ). take k (paste (replicate 17 none) 0 xs i)) (sym (zero-add i)) ∙ take-paste (replicate 17 none) 0 xs i (omega arith) (omega arith)
+    first = ap (λ (k : ℕ). take k (paste (replicate 17 none) 0 xs i)) (sym (zero-add i))
+        ∙ take-paste (replicate 17 none) 0 xs i (omega arith) (omega arith)
 
     whole : setupReply (take i xs) ≡ setupReply xs
     whole = ⊎-elim

@@ -67,7 +67,8 @@ cells-more p xs i cs is l =
     ∙ ap (λ (k : ℕ). cells p 16 (take k xs)) (sym (add-one i))
 
 pub table-filled : (xs : List FlowRecord) (c : ℕ) (qs ms : List ℕ) → c ≤ length xs →
-    qs ≡ cells (λ r. r .quantum) 16 (take c xs) → ms ≡ cells (λ r. r .maximum) 16 (take c xs) → tableOf (common c) qs ms ≡ tableFor (take c xs)
+    qs ≡ cells (λ r. r .quantum) 16 (take c xs) → ms ≡ cells (λ r. r .maximum) 16 (take c xs) →
+    tableOf (common c) qs ms ≡ tableFor (take c xs)
 table-filled xs c qs ms inside q m = rw (q, m, length-take-le c xs inside)
 
 -- ---- an answer and a table are setup's

@@ -10,7 +10,8 @@ use Rattle.drrfigures.proofs.text_of.Tie as tie
 listed : (r : tie.After-all-figures) → Counts (r .all-figures .result) (r .all-figures .last .1 .1 .1 .0)
 listed r =
     let a = r .before .before .before .before .args in
-    counted (figures.figuresWithin (a .s) (a .flow) (a .sizes .now) 21) (replicate 21 0) _ _ (r .all-figures .ensures .0) (r .all-figures .ensures .1)
+    counted (figures.figuresWithin (a .s) (a .flow) (a .sizes .now) 21) (replicate 21 0) _ _ (r .all-figures .ensures .0)
+    (r .all-figures .ensures .1)
 
 returns : tie.Need-returns
 returns c =

@@ -61,8 +61,11 @@ flows-again c =
     let o = at-flows d in
     let e : i .k ≡ 32 = omega arith in
     let s = o .before .before .before in
-    let numbers = passed (d .before .numbers-ok .ensures) (d .if2 .left) in
-    (omega arith, i .inv .1, all-more (o .flows .f) _ (o .flows .inv .2) (flow-good (T s) (L s) (o .flows .f) numbers (rw e at (i .inv .2))))
+    let numbers = passed (d .before .numbers-ok .ensures) (d .if2 .left) in (
+      omega arith,
+      i .inv .1,
+      all-more (o .flows .f) _ (o .flows .inv .2) (flow-good (T s) (L s) (o .flows .f) numbers (rw e at (i .inv .2))),
+    )
 
 returns-2 : tie.Need-returns-2 Inv-loop μ-loop Inv-flows μ-flows
 returns-2 c =

@@ -78,8 +78,11 @@ returns-3 c =
     let w = c .before .before in
     let e = w .before .before .before .before in
     let t = A e in
-    let filled = listed (file (X t)) (ok t) _ (table-read t) _ _ (count-is t) (at-is t) (list (X t)) in
-    (run-fine (file (X t)) (list (X t)) (ok t) (room e), w .run-events .ensures ∙ filled ∙ run-fills (file (X t)) (list (X t)) (ok t) (room e))
+    let filled = listed (file (X t)) (ok t) _ (table-read t) _ _ (count-is t) (at-is t) (list (X t)) in (
+      run-fine (file (X t)) (list (X t)) (ok t) (room e),
+      w .run-events .ensures ∙ filled
+          ∙ run-fills (file (X t)) (list (X t)) (ok t) (room e),
+    )
 
 pub run-spec : {M : Type 1} → statement M
 run-spec =

@@ -22,10 +22,17 @@ module _ (s : tie.Start) where
   starts = omega (arith, at-is, s .pre .0 .flows-inside)
 
   -- what is handed on is the part of the file at the table's offset
-  part-long : 8 * s .args .flows .count ≤ length (take (length (s .args .file .now) - s .args .flows .at) (drop (s .args .flows .at) (s .args .file .now)))
+  part-long : 8 * s .args .flows .count
+      ≤ length (take (length (s .args .file .now) - s .args .flows .at) (drop (s .args .flows .at) (s .args .file .now)))
   part-long =
       let b = s .args .file .now in
-      omega (arith, count-is, s .pre .0 .flows-inside, ap length (part-is b (s .args .flows .at) (flowOffset b) at-is), length-drop (flowOffset b) b)
+      omega (
+        arith,
+        count-is,
+        s .pre .0 .flows-inside,
+        ap length (part-is b (s .args .flows .at) (flowOffset b) at-is),
+        length-drop (flowOffset b) b,
+      )
 
 records-are : (c : tie.After-records) → recordsIn (c .records .result) ≡ flowsIn (c .before .before .before .args .file .now)
 records-are c =
@@ -34,7 +41,11 @@ records-are c =
     c .records .ensures ∙ (λ j. flowsFrom (part-is b (s .args .flows .at) (flowOffset b) (at-is s) j) 0 (count-is s j))
 
 returns : tie.Need-returns
-returns c = (c .table-of .ensures .0 ∙ ap setupAnswer (records-are (c .before)), c .table-of .ensures .1 ∙ ap setupTable (records-are (c .before)))
+returns c = (
+  c .table-of .ensures .0 ∙ ap setupAnswer (records-are (c .before)),
+  c .table-of .ensures .1
+      ∙ ap setupTable (records-are (c .before)),
+)
 
 pub flows-of-spec : {M : Type 1} → statement M
 flows-of-spec =

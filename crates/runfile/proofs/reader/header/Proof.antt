@@ -63,7 +63,8 @@ t4 c = flows (laid (c .before) .layout-of .ensures .0) (c .if4 .left)
 t5 : (c : tie.Else5) → ltb mostEvents (eventCount (F4 (c .before .before .before))) ≡ false
 t5 c =
     let k = c .before .before .before in
-    le-ltb mostEvents (eventCount (F4 k)) (omega (arith, ap (λ (x : Layout). x .events .count) (laid k .layout-of .ensures .0), c .if5 .left))
+    le-ltb mostEvents (eventCount (F4 k))
+    (omega (arith, ap (λ (x : Layout). x .events .count) (laid k .layout-of .ensures .0), c .if5 .left))
 
 -- the test of the tables
 t6 : (c : tie.After-tables-ok) →
@@ -72,7 +73,8 @@ t6 : (c : tie.After-tables-ok) →
 t6 c =
     let k = c .before .before .before .before in
     c .tables-ok .ensures
-    ∙ ap (λ (x : Layout). tablesb (x .flows .count) (x .events .count) (x .flows .at) (x .events .at) (length (F4 k))) (laid k .layout-of .ensures .0)
+    ∙ ap (λ (x : Layout). tablesb (x .flows .count) (x .events .count) (x .flows .at) (x .events .at) (length (F4 k)))
+    (laid k .layout-of .ensures .0)
 
 long : (c : tie.Else1) → headerSize ≤ length (F1 c)
 long c = ltb-false _ _ (or-left (ltb (length (F1 c)) headerSize) (ltb mostBytes (length (F1 c))) (t1 c))
@@ -103,7 +105,8 @@ module _ (k : tie.After-struct-known2) where
   left-4 : headerAnswer (F4 k) ≡
       cond (eqb (flowCount (F4 k)) 0 || ltb mostFlows (flowCount (F4 k))) (refusedAt 5 0)
       (cond (ltb mostEvents (eventCount (F4 k))) (refusedAt 11 0)
-      (cond (not (tablesb (flowCount (F4 k)) (eventCount (F4 k)) (flowOffset (F4 k)) (eventOffset (F4 k)) (length (F4 k)))) (refusedAt 12 0) fine))
+      (cond (not (tablesb (flowCount (F4 k)) (eventCount (F4 k)) (flowOffset (F4 k)) (eventOffset (F4 k)) (length (F4 k))))
+      (refusedAt 12 0) fine))
   unfolding headerAnswer
   left-4 = simp (t1 (two .before .before), t2 two, t3 three)
 
@@ -120,7 +123,8 @@ refused-5 c =
 -- past the first five
 left-6 : (c : tie.After-tables-ok) (v : Bool) →
     let b = F4 (c .before .before .before .before) in
-    tablesb (flowCount b) (eventCount b) (flowOffset b) (eventOffset b) (length b) ≡ v → headerAnswer b ≡ cond (not v) (refusedAt 12 0) fine
+    tablesb (flowCount b) (eventCount b) (flowOffset b) (eventOffset b) (length b) ≡ v →
+    headerAnswer b ≡ cond (not v) (refusedAt 12 0) fine
 left-6 c v e =
     let five = c .before in
     let four = five .before .before in

@@ -19,7 +19,8 @@ read-tables-requires : tie.Need-read-tables-requires
 read-tables-requires c κs =
     let t = c .before in
     let x = t .before .before in
-    let ok : headerAnswer (x .before .before .args .file .now) ≡ fine = sym (x .header .ensures .0) ∙ ap verdictPaper (t .enum-told .given .1) in
+    let ok : headerAnswer (x .before .before .args .file .now) ≡ fine = sym (x .header .ensures .0)
+    ∙ ap verdictPaper (t .enum-told .given .1) in
     (ok, x .header .ensures .1 ∙ layout-is _ ok)
 
 pub read-spec : {M : Type 1} → statement M

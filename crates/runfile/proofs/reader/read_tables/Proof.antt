@@ -29,9 +29,16 @@ module _ (s : tie.Start) where
   starts : s .args .layout .events .at ≤ length b
   starts = omega (arith, at-is, lies .events-inside)
 
-  part-long : 8 * s .args .layout .events .count ≤ length (take (length b - s .args .layout .events .at) (drop (s .args .layout .events .at) b))
+  part-long : 8 * s .args .layout .events .count
+      ≤ length (take (length b - s .args .layout .events .at) (drop (s .args .layout .events .at) b))
   part-long =
-      omega (arith, count-is, lies .events-inside, ap length (part-is b (s .args .layout .events .at) (eventOffset b) at-is), length-drop (eventOffset b) b)
+      omega (
+        arith,
+        count-is,
+        lies .events-inside,
+        ap length (part-is b (s .args .layout .events .at) (eventOffset b) at-is),
+        length-drop (eventOffset b) b,
+      )
 
 -- setup's answer, seen from the flows
 module _ (x : tie.After-flows-of) where
@@ -53,7 +60,8 @@ module _ (y : tie.After-ticks) where
   order : verdictPaper (y .ticks .result) ≡ ticksAnswer 0 0 (eventsIn (b (S X)))
   order =
       y .ticks .ensures
-      ∙ (λ j. ticksAnswer 0 0 (eventsFrom (part-is (b (S X)) (S X .args .layout .events .at) (eventOffset (b (S X))) (at-is (S X)) j) 0 (count-is (S X) j)))
+      ∙ (λ j. ticksAnswer 0 0
+      (eventsFrom (part-is (b (S X)) (S X .args .layout .events .at) (eventOffset (b (S X))) (at-is (S X)) j) 0 (count-is (S X) j)))
 
 returns : tie.Need-returns
 returns c =

@@ -13,7 +13,8 @@ returns c =
     let k = c .before .before in
     let x = k .before .before in
     (λ i. reply (c .refused .ensures .0 i) (freshState (c .refused .ensures .1 i)))
-    ∙ flows-none (x .before .before .args .file .now) (k .answer .given .0 .0) _ (sym (ap verdictPaper (k .answer .given .1)) ∙ x .header .ensures .0)
+    ∙ flows-none (x .before .before .args .file .now) (k .answer .given .0 .0) _ (sym (ap verdictPaper (k .answer .given .1))
+    ∙ x .header .ensures .0)
 
 -- the header has no fault
 module _ (c : tie.After-enum-told) where

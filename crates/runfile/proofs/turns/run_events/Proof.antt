@@ -173,7 +173,8 @@ loop-less-3 : tie.Need-loop-less-3 Inv-loop μ-loop
 loop-less-3 c =
     let q = c .before .before .before in
     let g = q .before .before .before in
-    sent-less (here (A₁ g)) (later (J (P g))) _ _ (P g .pick-in .ensures) (f g) (len g) (d g) (v g) (told g) _ (c .usize-of-u32 .ensures .0)
+    sent-less (here (A₁ g)) (later (J (P g))) _ _ (P g .pick-in .ensures) (f g) (len g) (d g) (v g) (told g) _
+    (c .usize-of-u32 .ensures .0)
 
 -- .. it is idle
 module _ (k : tie.At-match-keys2 Inv-loop μ-loop) where
@@ -198,7 +199,8 @@ returns c =
     let k = e .before in
     let s = S (K (A₂ k)) in
     run-ends (here (A₂ k)) (later (J (P₂ k))) (l₂ k) (idles k) (e .if2 .taken) _ (q .put-line .ensures)
-    ∙ (λ i. eventsListing (table-is (K (A₂ k)) i) (eventsFrom (s .args .t .now) 0 (s .args .m)) ++ drop (6 * (s .args .m + 1)) (s .args .out .now))
+    ∙ (λ i. eventsListing (table-is (K (A₂ k)) i) (eventsFrom (s .args .t .now) 0 (s .args .m))
+    ++ drop (6 * (s .args .m + 1)) (s .args .out .now))
 
 module _ (g : tie.After-le42 Inv-loop μ-loop) where
   abbrev K₂ : tie.At-match-keys2 Inv-loop μ-loop
@@ -230,7 +232,8 @@ loop-holds : tie.Need-loop-holds Inv-loop μ-loop
 loop-holds c =
     let k = c .before .before .before .before .before in
     let s = S k in
-    rw (c .no-lines .ensures, c .before .closed-at .ensures) (inside-first (T k) (s .args .t .now) (s .args .m) (s .args .out .now) (ranged k))
+    rw (c .no-lines .ensures, c .before .closed-at .ensures)
+    (inside-first (T k) (s .args .t .now) (s .args .m) (s .args .out .now) (ranged k))
 
 same-length : tie.Need-same-length Inv-loop μ-loop
 same-length c =
@@ -276,6 +279,7 @@ run-events-spec =
     loop-again-2
     (λ c κs. let g = c .before .before in let a = A₁ g in ((fits a, few a), omega (arith, now-small a, most g)))
     (λ c κs. _)
-    (λ c. let g = c .before .before .before .before .before .before in omega (arith, now-small (A₁ g), most g, c .usize-of-u32 .ensures .0))
+    (λ c. let g = c .before .before .before .before .before .before in
+    omega (arith, now-small (A₁ g), most g, c .usize-of-u32 .ensures .0))
     loop-less-3
     loop-again-3)

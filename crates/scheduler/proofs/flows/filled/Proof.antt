@@ -22,14 +22,18 @@ loop-again : tie.Need-loop-again Inv-loop μ-loop
 loop-again c =
     let o = c .before .before in
     let rs = o .before .args .t1 in
-    let inside : o .loop .f < length rs = omega (arith, long (o .before)) in
-    (omega arith, cells-more (λ r. r .quantum) rs (o .loop .f) _ (o .loop .inv .1) inside, cells-more (λ r. r .maximum) rs (o .loop .f) _ (o .loop .inv .2) inside)
+    let inside : o .loop .f < length rs = omega (arith, long (o .before)) in (
+      omega arith,
+      cells-more (λ r. r .quantum) rs (o .loop .f) _ (o .loop .inv .1) inside,
+      cells-more (λ r. r .maximum) rs (o .loop .f) _ (o .loop .inv .2) inside,
+    )
 
 returns : tie.Need-returns Inv-loop μ-loop
 returns c =
     let o = c .before in
     let e : o .loop .f ≡ o .before .args .count = omega arith in
-    table-filled (o .before .args .t1) (o .before .args .count) _ _ (long (o .before)) (rw e at (o .loop .inv .1)) (rw e at (o .loop .inv .2))
+    table-filled (o .before .args .t1) (o .before .args .count) _ _ (long (o .before)) (rw e at (o .loop .inv .1))
+    (rw e at (o .loop .inv .2))
 
 pub filled-spec : {M : Type 1} → statement M
 filled-spec =

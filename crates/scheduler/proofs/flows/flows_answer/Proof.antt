@@ -31,14 +31,16 @@ module _ (o : tie.At-loop Inv-loop μ-loop) where
 returns : tie.Need-returns Inv-loop μ-loop
 returns c =
     let o = c .before .before .before in
-    sym (o .loop .inv .1 ∙ bad-quantum (rs o) (n o) (o .loop .f) (long (o .before)) (c .before .before .loop-test .taken) (not-true _ (c .if1 .taken)))
+    sym (o .loop .inv .1
+    ∙ bad-quantum (rs o) (n o) (o .loop .f) (long (o .before)) (c .before .before .loop-test .taken) (not-true _ (c .if1 .taken)))
 
 returns-2 : tie.Need-returns-2 Inv-loop μ-loop
 returns-2 c =
     let e = c .before in
     let o = e .before .before .before in
     let more = e .before .before .loop-test .taken in
-    sym (o .loop .inv .1 ∙ bad-maximum (rs o) (n o) (o .loop .f) (long (o .before)) more (not-false _ (e .if1 .left)) (not-true _ (c .if2 .taken)))
+    sym (o .loop .inv .1
+    ∙ bad-maximum (rs o) (n o) (o .loop .f) (long (o .before)) more (not-false _ (e .if1 .left)) (not-true _ (c .if2 .taken)))
 
 loop-again : tie.Need-loop-again Inv-loop μ-loop
 loop-again c =
