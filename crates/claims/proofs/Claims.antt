@@ -5,7 +5,7 @@ use mathlib.Core.Path.{_≡_}
 use mathlib.Core.Bool.{true}
 use mathlib.Core.List.{List, [], _∷_, _++_}
 use mathlib.Core.Logic.{_↔_, _≢_}
-use Prim.Native.Nat.{ℕ, _+_, _*_, _-_, _≤_, _<_}
+use Prim.Native.Nat.{ℕ, _+_, _*_, _-_, _/_, _≤_, _<_}
 use lib.ListN.{length, drop}
 use mir.Val.{Val}
 use denote.Laws.{Is}
@@ -14,7 +14,7 @@ use Rattle.drr.specs.declared.State.{State}
 use Rattle.drr.specs.declared.FlowRecord.{FlowRecord}
 use Rattle.drr.specs.State.{Line, quantumOf, maximumOf, lineIn, stateFrom, freshLine, freshState, emptyTable}
 use Rattle.drr.specs.Sound.{soundb}
-use Rattle.drr.specs.Facts.{Shaped, Sound, SoundState, ShapedState}
+use Rattle.drr.specs.Facts.{Ranged, Shaped, Sound, SoundState, ShapedState, SameTable, SameMeaning}
 use Rattle.drr.specs.Answers.{Answer, idle, outcome, reply}
 use Rattle.drr.specs.Arrival.{arrivalReply}
 use Rattle.drr.specs.Pick.{Picks}
@@ -30,6 +30,7 @@ use Rattle.text.specs.Text.{listingText}
 use Rattle.drr.proofs.State as state
 use Rattle.drr.proofs.Facts.{sound-is, of-sound}
 use Rattle.drr.proofs.Shape.{shaped}
+use Rattle.drr.proofs.Meaning.{one-table, one-state}
 use Rattle.drr.proofs.One.{pick-is, pick-only}
 use Rattle.drr.proofs.Tables.{no-flows-ranged}
 use Rattle.drr.proofs.Keeps.{arrival-keeps, arrival-refused, pick-keeps}
@@ -48,6 +49,13 @@ every-state-shaped = shaped
 
 pub test-is-facts : (T : Table) (l : Line) → Shaped T l → (soundb T l ≡ true) ↔ Sound T l
 test-is-facts T l shape = (sound-is T l shape, of-sound T l)
+
+-- "so one meaning has one state": two sound states that say the same are the same; and of tables, what is unused decides nothing
+pub one-meaning : (s t : State) → SoundState s → SoundState t → SameMeaning s t → s ≡ t
+one-meaning = one-state
+
+pub one-table-meaning : (T U : Table) → Ranged T → Ranged U → SameTable T U → T ≡ U
+one-table-meaning = one-table
 
 pub arrival-hands-back : (s : State) (f length : ℕ) → (arrivalReply s f length .answer .refusal ≡ 0 → ⊥) →
     arrivalReply s f length .state ≡ s
@@ -112,6 +120,10 @@ owed-never-falls T i S S' some = figures.owed-grows T i some S S'
 
 pub wait-is-least : (T : Table) (i : ℕ) → 0 < allQuanta T → 0 < quantumOf T i → figures.Least (λ S. 1 ≤ owed T i S) (wait T i)
 wait-is-least = figures.wait-least
+
+-- "It is C / Q rounded down, plus 1"
+pub wait-is : (T : Table) (i : ℕ) → 0 < allQuanta T → 0 < quantumOf T i → wait T i ≡ lag T i / quantumOf T i + 1
+wait-is = figures.wait-formula
 
 -- "With one flow C is 0 and owed(S) is S."
 pub one-flow : (T : Table) → T .n ≡ 1 → 0 < quantumOf T 0 → (lag T 0 ≡ 0) × ((S : ℕ) → owed T 0 S ≡ S)
