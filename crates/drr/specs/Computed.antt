@@ -26,7 +26,8 @@ abbrev pub turn : Table → ℕ → Line → Found → (Line → Outcome) → Ou
 turn T v l Nothing goto2 = outcome idle l
 turn T v l (At f) goto2 = serve (leb (oldestCharge l f) (deficitOf (openAt T l f) f)) (v + 1) (openAt T l f) f goto2
 
--- steps 2 and 3, with v visits opened before, and at most k more
+-- steps 2 and 3, with v visits opened before, and at most k more. On a sound line this count never matters: `look-unfolds`, in
+-- proofs/One.antt, is the equation without it.
 unfoldable pub lookFor : Table → ℕ → ℕ → Line → Outcome
 lookFor T zero v l = outcome idle l
 lookFor T (suc k) v l = turn T v l (next T l) (lookFor T k (v + 1))

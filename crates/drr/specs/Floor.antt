@@ -36,7 +36,7 @@ abbrev pub lineAfter : Table → Line → List Call → Line
 lineAfter T l [] = l
 lineAfter T l (c ∷ cs) = lineAfter T (callOf T l c .line) cs
 
--- the bytes that an answer says were sent to flow i
+-- the bytes that an answer says were sent to flow i; a refused pick is no sending, and its zeros count for nothing
 abbrev pub sentIn : Answer → ℕ → ℕ
 sentIn a i = cond (a .sends && eqb (flowIn a) i) (charge (lengthIn a)) 0
 

@@ -101,7 +101,8 @@ freshLine n =
 abbrev pub noFlows : Table
 noFlows = tableOf (common 0) (replicate 16 0) (replicate 16 0)
 
--- ---- the State of the code: its rows as lists, and back
+-- ---- the State of the code: its rows as lists, and back. The public State has sixteen row structs, the engine an array of arrays;
+-- both are a list of lists here.
 abbrev pub lengthsOf : Row → List ℕ
 lengthsOf r = r .lengths
 

@@ -43,7 +43,8 @@ onward t a = cond (a .sends) (free (t + charge (lengthIn a))) still
 
 -- The calls are timed as document 01 says, from the line l on; no event below the tick `low` is left.
 -- "When the line is free, all events with a tick at or before now are booked in file order, then a pick is made. .. Idle: now becomes
--- the next event's tick; with no event left the run ends."
+-- the next event's tick; with no event left the run ends." After a pick at t no event of a tick at or before t is left (`suc t`): all
+-- of those were booked before it.
 abbrev pub Timed : Table → ℕ → Clock → List Act → Line → Type 0
 Timed T low still [] l = Unit {0}
 Timed T low (free t) [] l = ⊥

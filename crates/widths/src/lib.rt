@@ -3,10 +3,10 @@
 ghost use mathlib.Core.Path.{_≡_};
 ghost use Prim.Native.Nat.{_≤_};
 
-pub fn usize_of_u8(x: u8) -> usize
-    ensures { λ r. ⌜ (r ≡ x) × (r ≤ 255) ⌝ }
+pub fn usize_of_u8(byte: u8) -> usize
+    ensures { λ r. ⌜ (r ≡ byte) × (r ≤ 255) ⌝ }
 {
-    x as usize
+    byte as usize
 }
 
 pub fn usize_of_u32(x: u32) -> usize
@@ -15,14 +15,14 @@ pub fn usize_of_u32(x: u32) -> usize
     x as usize
 }
 
-pub fn u64_of_u32(x: u32) -> u64
-    ensures { λ r. ⌜ (r ≡ x) × (r ≤ 4294967295) ⌝ }
+pub fn u64_of_u32(word: u32) -> u64
+    ensures { λ r. ⌜ (r ≡ word) × (r ≤ 4294967295) ⌝ }
 {
-    x as u64
+    word as u64
 }
 
-pub fn u64_of_usize(x: usize) -> u64
-    ensures { λ r. ⌜ r ≡ x ⌝ }
+pub fn u64_of_usize(size: usize) -> u64
+    ensures { λ r. ⌜ r ≡ size ⌝ }
 {
-    x as u64
+    size as u64
 }
