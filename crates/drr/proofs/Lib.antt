@@ -23,3 +23,4 @@ pub mod Bounds
 pub mod Service
 pub mod Demand3
 pub mod Rows
+pub mod Paper
