@@ -12,10 +12,10 @@ use lib.Seq.{set-getD}
 use Rattle.drr.specs.declared.Table.{Table}
 use Rattle.drr.specs.declared.State.{State}
 use Rattle.drr.specs.declared.Found.the-variants.{At, Nothing}
-use Rattle.drr.specs.State.{Line, quantumOf, maximumOf, deficitOf, waitingOf, oldest, oldestCharge, lineIn, stateFrom}
+use Rattle.drr.specs.State.{Line, maximumOf, deficitOf, waitingOf, withVisit, lineIn, stateFrom, freshLine}
 use Rattle.drr.specs.Facts.{Sound, SoundState}
-use Rattle.drr.specs.Answers.{Answer, idle, sentAs, Outcome, outcome}
-use Rattle.drr.specs.Arrival.{arrivalOf}
+use Rattle.drr.specs.Answers.{Answer, idle, accepted, arrivalRefused, Outcome, outcome, Reply}
+use Rattle.drr.specs.Arrival.{put, arrivalOf}
 use Rattle.drr.specs.Pick.{after, firstOf, next, openAt, closed, emptied, sent, Ready, Looks, Picks}
 use Rattle.drr.specs.Pick.Looks.{idles as finds-none, sends as serves, passes}
 use Rattle.drr.specs.Pick.Picks.{goes-on, closes, starts}
@@ -29,6 +29,9 @@ use Rattle.drr.proofs.Bools.{dec}
 use Rattle.drr.proofs.Search.{after-in}
 use Rattle.drr.proofs.Steps.{found-in, visit-passes, on-ends}
 use Rattle.drr.proofs.One.{pick-is}
+use Rattle.drr.proofs.Keeps.{arrival-keeps, pick-keeps}
+use Rattle.drr.proofs.States.{line-back, state-back}
+use Rattle.drr.proofs.Demand3.{call-keeps, reply-is, same}
 
 -- ---- one run at most
 pub runs-one : {T : Table} {r : Reading} {v k : ℕ} {p q o : Point} {m t u : Memory} {a b : Answer} → Runs T r v k p m a q t →
@@ -142,3 +145,112 @@ looks-run {T} r {v} (passes {l = l} {f = f} e short j) ok off =
     let on = looks-run r j (visit-passes T l ok f e off short) refl in
     to-found r l ok off v (T .n) (l .place) f (omega arith) e
     (λ _. selects w (leaves (λ fits. omega (arith, fits .1, short)) (keeps w on)))
+
+-- ---- a pick
+-- line 18 in an open visit that cannot go on
+closing : {T : Table} (r : Reading) (l : Line) {a : Answer} {q : Point} {t : Memory} →
+    Runs T r 0 (T .n) (line6 (after (T .n) (l .place))) (memoryOf (closed (emptied l))) a q t →
+    Runs T r 0 (T .n) (line18 (l .place)) (memoryOf l) a q t
+closing {T} r l {a} {q} {t} = go (ltb 0 (waitingOf l (l .place))) refl
+  where
+    at : ℕ → Memory
+    at d = assign (memoryOf l) (l .place) d
+
+    go : (b : Bool) → ltb 0 (waitingOf l (l .place)) ≡ b →
+        Runs T r 0 (T .n) (line6 (after (T .n) (l .place))) (at (cond b (deficitOf l (l .place)) 0)) a q t →
+        Runs T r 0 (T .n) (line18 (l .place)) (memoryOf l) a q t
+    go true p j =
+        keeps (ltb-true _ _ p) (subst (λ (ds : List ℕ). Runs T r 0 (T .n) (line6 (after (T .n) (l .place)))
+        (record { deficits = ds; counts = l .counts; rows = l .rows }) a q t) (set-getD (l .deficits) (l .place) 0) j)
+    go false p j =
+        let none : waitingOf l (l .place) ≡ 0 = omega (arith, ltb-false 0 (waitingOf l (l .place)) p) in
+        zeroes none j
+
+picks-run : {T : Table} (r : Reading) {l : Line} {a : Answer} {t : Line} → Picks T l a t → Sound T l →
+    Runs T r 0 (T .n) (pointOf T l) (memoryOf l) a (pointOf T t) (memoryOf t)
+picks-run r (goes-on on ready) ok = rw on (sends ready)
+picks-run {T} r (closes {l = l} on stuck j) ok = rw on (leaves stuck (closing r l (looks-run r j (on-ends T l ok on stuck) refl)))
+picks-run r (starts off j) ok = rw off (looks-run r j ok off)
+
+-- from where a sound line stands the listing runs to the pick's answer, and stands where the pick's line does ..
+pub listing-picks : (T : Table) (l : Line) → Sound T l → (r : Reading) →
+    Runs T r 0 (T .n) (pointOf T l) (memoryOf l) (pickOf T l .answer) (pointOf T (pickOf T l .line)) (memoryOf (pickOf T l .line))
+listing-picks T l ok r = picks-run r (pick-is T l ok) ok
+
+-- .. and to no other
+pub listing-only : (T : Table) (l : Line) → Sound T l → (r : Reading) (a : Answer) (q : Point) (t : Memory) →
+    Runs T r 0 (T .n) (pointOf T l) (memoryOf l) a q t →
+    (a ≡ pickOf T l .answer) × (q ≡ pointOf T (pickOf T l .line)) × (t ≡ memoryOf (pickOf T l .line))
+listing-only T l ok r a q t j = runs-one j (listing-picks T l ok r)
+
+-- ---- any calls
+serves-one : {T : Table} {r : Reading} {p q o : Point} {m t u : Memory} {cs : List Call} {xs ys : List Answer} →
+    Serves T r p m cs xs q t → Serves T r p m cs ys o u → (xs ≡ ys) × (q ≡ o) × (t ≡ u)
+serves-one ends ends = (refl, refl, refl)
+serves-one {T} (books {m = m} {f = f} {x = x} j) (books k) =
+    let z = serves-one j k in
+    (ap (λ (xs : List Answer). arrivalOf T (queues m) f x .answer ∷ xs) (z .0), z .1, z .2)
+serves-one {T} {r} {o = o} {u = u} (runs {o = c} {w = w} {cs = cs} i j) (runs {o = d} {w = x} {answers = ys} h k) =
+    let same = runs-one i h in
+    let k' : Serves T r c w cs ys o u =
+    subst⁻¹ (λ (y : Point). Serves T r y w cs ys o u) (same .1) (subst⁻¹ (λ (y : Memory). Serves T r d y cs ys o u) (same .2) k) in
+    let z = serves-one j k' in
+    (λ n. same .0 n ∷ z .0 n, z .1, z .2)
+
+-- an arrival reads neither place nor visit, and leaves both
+abbrev elsewhere : ℕ → Bool → Outcome → Outcome
+elsewhere p o z = outcome (z .answer) (withVisit (z .line) p o)
+
+arrives-anywhere : (T : Table) (l : Line) (f x p : ℕ) (o : Bool) → arrivalOf T (withVisit l p o) f x ≡ elsewhere p o (arrivalOf T l f x)
+unfolding arrivalOf
+arrives-anywhere T l f x p o = go (leb (T .n) f) (eqb x 0) (ltb (maximumOf T f) x) (leb 32 (waitingOf l f))
+  where
+    by : Bool → Bool → Bool → Bool → Line → Outcome
+    by a b c d l =
+        cond a (outcome (arrivalRefused 1) l) (cond b (outcome (arrivalRefused 2) l) (cond c (outcome (arrivalRefused 3) l)
+        (cond d (outcome (arrivalRefused 4) l) (outcome accepted (put l f x)))))
+
+    go : (a b c d : Bool) → by a b c d (withVisit l p o) ≡ elsewhere p o (by a b c d l)
+    go true b c d = refl
+    go false true c d = refl
+    go false false true d = refl
+    go false false false true = refl
+    go false false false false = refl
+
+-- the answers of calls on a line
+abbrev answersOf : Table → Line → List Call → List Answer
+answersOf T l [] = []
+answersOf T l (c ∷ cs) = callOf T l c .answer ∷ answersOf T (callOf T l c .line) cs
+
+calls-run : (T : Table) (r : Reading) (l : Line) → Sound T l → (cs : List Call) →
+    Serves T r (pointOf T l) (memoryOf l) cs (answersOf T l cs) (pointOf T (lineAfter T l cs)) (memoryOf (lineAfter T l cs))
+calls-run T r l ok [] = ends
+calls-run T r l ok (picks ∷ cs) = runs (listing-picks T l ok r) (calls-run T r (pickOf T l .line) (pick-keeps T l ok) cs)
+calls-run T r l ok (arrives f x ∷ cs) = go (calls-run T r (arrivalOf T l f x .line) (arrival-keeps T l ok f x) cs)
+  where
+    z : Outcome
+    z = arrivalOf T l f x
+
+    go : {xs : List Answer} {q : Point} {t : Memory} → Serves T r (pointOf T (z .line)) (memoryOf (z .line)) cs xs q t →
+        Serves T r (pointOf T l) (memoryOf l) (arrives f x ∷ cs) (z .answer ∷ xs) q t
+    go {xs} {q} {t} rest =
+        let here = arrives-anywhere T l f x (l .place) (l .opened) in
+        let there = arrives-anywhere T l f x 0 false in
+        let stays : Serves T r (pointOf T l) (memoryOf (z .line)) cs xs q t =
+        subst (λ (p : Point). Serves T r p (memoryOf (z .line)) cs xs q t) (ap (λ (w : Outcome). pointOf T (w .line)) here) rest in
+        subst (λ (b : Answer). Serves T r (pointOf T l) (memoryOf l) (arrives f x ∷ cs) (b ∷ xs) q t) (ap (λ (w : Outcome). w .answer) there)
+        (books (subst⁻¹ (λ (w : Outcome). Serves T r (pointOf T l) (memoryOf (w .line)) cs xs q t) there stays))
+
+-- ---- the same on states, by the public calls
+answers-same : (T : Table) (l : Line) → Sound T l → (cs : List Call) → answersTo (stateFrom T l) cs ≡ answersOf T l cs
+answers-same T l ok [] = refl
+answers-same T l ok (c ∷ cs) =
+    ap (λ (z : Reply). z .answer ∷ answersTo (z .state) cs) (reply-is T l ok c)
+    ∙ ap (λ (xs : List Answer). callOf T l c .answer ∷ xs) (answers-same T (callOf T l c .line) (call-keeps T l ok c) cs)
+
+abbrev pub ServesAs : Reading → List Call → State → Type 0
+ServesAs r cs s =
+    let T = s .table in
+    let before = lineIn (s .line) in
+    let after = lineIn (afterCalls s cs .line) in
+    Serves T r (pointOf T before) (memoryOf before) cs (answersTo s cs) (pointOf T after) (memoryOf after)
