@@ -5,14 +5,14 @@ use mathlib.Core.List.{List, [], _∷_}
 use mathlib.Core.Logic.{⊎-elim}
 use Prim.Native.Nat.{ℕ, zero, suc, _+_, _-_, _≤_, _<_}
 use native.Mathlib.Omega.{arith}
-use borrow.Author.Tests.{ltb-true, ltb-false}
+use borrow.Author.Tests.{ltb-true, ltb-false, le-ltb}
 use lib.Dec.{ltb, leb, eqb}
 use lib.ListN.{getD, set}
 use lib.Seq.{set-getD}
 use Rattle.drr.specs.declared.Table.{Table}
 use Rattle.drr.specs.declared.State.{State}
 use Rattle.drr.specs.declared.Found.the-variants.{At, Nothing}
-use Rattle.drr.specs.State.{Line, maximumOf, deficitOf, waitingOf, withVisit, lineIn, stateFrom, freshLine}
+use Rattle.drr.specs.State.{Line, maximumOf, deficitOf, waitingOf, withVisit, lineIn, stateFrom, freshLine, freshState}
 use Rattle.drr.specs.Facts.{Sound, SoundState}
 use Rattle.drr.specs.Answers.{Answer, idle, accepted, arrivalRefused, Outcome, outcome, Reply}
 use Rattle.drr.specs.Arrival.{put, arrivalOf}
@@ -22,7 +22,7 @@ use Rattle.drr.specs.Pick.Picks.{goes-on, closes, starts}
 use Rattle.drr.specs.Computed.{pickOf}
 use Rattle.drr.specs.Floor.{Call, arrives, picks, replyTo, afterCalls, callOf, lineAfter}
 use Rattle.drr.specs.Paper.{Memory, DC, count, assign, Point, line6, line12, line18, Reading, outside, inside, past, Runs}
-use Rattle.drr.specs.Paper.{memoryOf, pointOf, startMemory, startPoint, queues, Serves, answersTo}
+use Rattle.drr.specs.Paper.{memoryOf, pointOf, memoryIn, pointIn, startMemory, startPoint, queues, Serves, answersTo}
 use Rattle.drr.specs.Paper.Runs.{idles, selects, skips, sends, leaves, zeroes, keeps}
 use Rattle.drr.specs.Paper.Serves.{ends, books, runs}
 use Rattle.drr.proofs.Bools.{dec}
@@ -248,9 +248,67 @@ answers-same T l ok (c ∷ cs) =
     ap (λ (z : Reply). z .answer ∷ answersTo (z .state) cs) (reply-is T l ok c)
     ∙ ap (λ (xs : List Answer). callOf T l c .answer ∷ xs) (answers-same T (callOf T l c .line) (call-keeps T l ok c) cs)
 
-abbrev pub ServesAs : Reading → List Call → State → Type 0
+abbrev ServesAs : Reading → List Call → State → Type 0
 ServesAs r cs s =
-    let T = s .table in
-    let before = lineIn (s .line) in
-    let after = lineIn (afterCalls s cs .line) in
-    Serves T r (pointOf T before) (memoryOf before) cs (answersTo s cs) (pointOf T after) (memoryOf after)
+    Serves (s .table) r (pointIn s) (memoryIn s) cs (answersTo s cs) (pointIn (afterCalls s cs)) (memoryIn (afterCalls s cs))
+
+serves-as : (T : Table) (l : Line) → Sound T l → (r : Reading) (cs : List Call) → ServesAs r cs (stateFrom T l)
+serves-as T l ok r cs =
+    let s = stateFrom T l in
+    let t = lineAfter T l cs in
+    subst⁻¹ (λ (z : State). Serves T r (pointIn s) (memoryIn s) cs (answersTo s cs) (pointIn z) (memoryIn z)) (same T l ok cs .after)
+    (subst⁻¹ (λ (xs : List Answer). Serves T r (pointIn s) (memoryIn s) cs xs (pointOf T t) (memoryIn (stateFrom T t)))
+    (answers-same T l ok cs)
+    (subst⁻¹ (λ (m : Line). Serves T r (pointOf T m) (memoryOf m) cs (answersOf T l cs) (pointOf T t) (memoryIn (stateFrom T t))) (line-back T l)
+    (subst⁻¹ (λ (m : Line). Serves T r (pointOf T l) (memoryOf l) cs (answersOf T l cs) (pointOf T m) (memoryOf m)) (line-back T t)
+    (calls-run T r l ok cs))))
+
+-- from any sound state, over any calls of arrival and pick, the listing gives the answers of the calls and stands where the state does ..
+pub listing-runs : (s : State) → SoundState s → (r : Reading) (cs : List Call) →
+    Serves (s .table) r (pointIn s) (memoryIn s) cs (answersTo s cs) (pointIn (afterCalls s cs)) (memoryIn (afterCalls s cs))
+listing-runs s ok r cs = subst (ServesAs r cs) (state-back (s .table) (s .line)) (serves-as (s .table) (lineIn (s .line)) ok r cs)
+
+-- .. and gives no other
+pub listing-runs-only : (s : State) → SoundState s → (r : Reading) (cs : List Call) (xs : List Answer) (q : Point) (t : Memory) →
+    Serves (s .table) r (pointIn s) (memoryIn s) cs xs q t →
+    (xs ≡ answersTo s cs) × (q ≡ pointIn (afterCalls s cs)) × (t ≡ memoryIn (afterCalls s cs))
+listing-runs-only s ok r cs xs q t j = serves-one j (listing-runs s ok r cs)
+
+-- ---- where it stands
+-- lines 1 to 5 are 01's fresh state
+pub listing-starts : (T : Table) → (pointIn (freshState T) ≡ startPoint) × (memoryIn (freshState T) ≡ startMemory)
+listing-starts T = (ap line6 (first (T .n)), ap memoryOf (line-back T (freshLine (T .n))))
+  where
+    first : (n : ℕ) → after n (n - 1) ≡ 0
+    first zero = refl
+    first (suc n) = rw (le-ltb (suc n - 1 + 1) (suc n) (omega arith))
+
+-- a point and a memory are those of one line at most: what the listing leaves is the whole line
+pub point-tells : (T : Table) (l m : Line) → Sound T l → Sound T m → pointOf T l ≡ pointOf T m → memoryOf l ≡ memoryOf m → l ≡ m
+point-tells T l m x y p e =
+    let z = spots (l .opened) (m .opened) refl refl p in
+    λ i. record { deficits = e i .deficits; counts = e i .counts; rows = e i .rows; place = z .0 i; opened = z .1 i }
+  where
+    n : ℕ
+    n = T .n
+
+    back : after n (l .place) ≡ after n (m .place) → l .place ≡ m .place
+    back h = ⊎-elim
+        (λ a. ⊎-elim (λ b. steps (ltb (l .place + 1) n) (ltb (m .place + 1) n) refl refl h a b) (λ b. absurd (omega (arith, a, b .0))) (y .placed))
+        (λ a. ⊎-elim (λ b. absurd (omega (arith, b, a .0))) (λ b. a .1 ∙ sym (b .1)) (y .placed))
+        (x .placed)
+      where
+        steps : (a b : Bool) → ltb (l .place + 1) n ≡ a → ltb (m .place + 1) n ≡ b → cond a (l .place + 1) 0 ≡ cond b (m .place + 1) 0 →
+            l .place < n → m .place < n → l .place ≡ m .place
+        steps true true f g h _ _ = omega arith
+        steps true false f g h _ _ = absurd (omega arith)
+        steps false true f g h _ _ = absurd (omega arith)
+        steps false false f g h u w = omega (arith, ltb-false (l .place + 1) n f, ltb-false (m .place + 1) n g)
+
+    spots : (a b : Bool) → l .opened ≡ a → m .opened ≡ b →
+        cond a (line12 (l .place)) (line6 (after n (l .place))) ≡ cond b (line12 (m .place)) (line6 (after n (m .place))) →
+        (l .place ≡ m .place) × (l .opened ≡ m .opened)
+    spots true true f g h = (cc, f ∙ sym g)
+    spots true false f g h = absurd (let z : _≡_ {A = ℕ} 0 1 = cc in omega arith)
+    spots false true f g h = absurd (let z : _≡_ {A = ℕ} 0 1 = cc in omega arith)
+    spots false false f g h = (back cc, f ∙ sym g)

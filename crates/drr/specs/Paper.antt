@@ -7,7 +7,7 @@ use Prim.Native.Nat.{ℕ, zero, suc, _+_, _-_, _≤_, _<_}
 use lib.ListN.{getD, set, replicate}
 use Rattle.drr.specs.declared.Table.{Table}
 use Rattle.drr.specs.declared.State.{State}
-use Rattle.drr.specs.State.{Line, quantumOf, charge, shiftedOf, spotAt, lineOf}
+use Rattle.drr.specs.State.{Line, quantumOf, charge, shiftedOf, spotAt, lineOf, lineIn}
 use Rattle.drr.specs.Answers.{Answer, idle, sentAs}
 use Rattle.drr.specs.Arrival.{arrivalOf}
 use Rattle.drr.specs.Pick.{after}
@@ -69,6 +69,15 @@ abbrev pub past : Reading → ℕ → ℕ → Point
 past outside n i = line18 i
 past inside n i = line6 (after n i)
 
+-- 1 for i= 1 to n do
+-- 2   DC[i] ← 0 ;
+-- 3 end                   and on to the first i
+abbrev pub startMemory : Memory
+startMemory = record { deficits = replicate 16 0; counts = replicate 16 0; rows = replicate 16 (replicate 32 0) }
+
+abbrev pub startPoint : Point
+startPoint = line6 0
+
 -- The listing up to its next packet. Before: the flows printed at line 10 since the last one, and how many queues more found empty in a
 -- row make a whole round; the point; the memory. After: what was sent, or 01's idle; the point; the memory.
 pub data Runs (T : Table) (r : Reading) : ℕ → ℕ → Point → Memory → Answer → Point → Memory → Type 0 where
@@ -99,26 +108,25 @@ pub data Runs (T : Table) (r : Reading) : ℕ → ℕ → Point → Memory → A
   keeps : {v k i : ℕ} {m t : Memory} {a : Answer} {q : Point} → 0 < count m i →
       Runs T r v k (line6 (after (T .n) i)) m a q t → Runs T r v k (line18 i) m a q t
 
--- ---- beside document 01's line
+-- ---- beside document 01
 abbrev pub memoryOf : Line → Memory
 memoryOf l = record { deficits = l .deficits; counts = l .counts; rows = l .rows }
 
--- a visit is open: the listing is at the while's test; none is: it comes to the flow after the place
+-- with a visit open the listing is at the while's test, with none it comes to the flow after the place
 abbrev pub pointOf : Table → Line → Point
 pointOf T l = cond (l .opened) (line12 (l .place)) (line6 (after (T .n) (l .place)))
 
--- 1 to 5: `for i= 1 to n do DC[i] ← 0 ; end`, and the first flow
-abbrev pub startMemory : Memory
-startMemory = record { deficits = replicate 16 0; counts = replicate 16 0; rows = replicate 16 (replicate 32 0) }
+abbrev pub memoryIn : State → Memory
+memoryIn s = memoryOf (lineIn (s .line))
 
-abbrev pub startPoint : Point
-startPoint = line6 0
+abbrev pub pointIn : State → Point
+pointIn s = pointOf (s .table) (lineIn (s .line))
 
 -- the queues to 01's arrival, which reads neither place nor visit
 abbrev pub queues : Memory → Line
 queues m = lineOf (m .counts) (m .deficits) (m .rows) (spotAt 0 false)
 
--- 01 books when the line is free: packets come between the runs, where the listing stands after a packet or is idle
+-- 01 books when the line is free: packets come where the listing stands after a packet, or is idle
 pub data Serves (T : Table) (r : Reading) : Point → Memory → List Call → List Answer → Point → Memory → Type 0 where
   ends : {p : Point} {m : Memory} → Serves T r p m [] [] p m
   books : {p q : Point} {m t : Memory} {f x : ℕ} {cs : List Call} {answers : List Answer} →
