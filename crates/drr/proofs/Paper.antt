@@ -7,7 +7,7 @@ use Prim.Native.Nat.{ℕ, zero, suc, _+_, _-_, _≤_, _<_}
 use native.Mathlib.Omega.{arith}
 use borrow.Author.Tests.{ltb-true, ltb-false, le-ltb}
 use lib.Dec.{ltb, leb, eqb}
-use lib.ListN.{getD, set}
+use lib.ListN.{set}
 use lib.Seq.{set-getD}
 use Rattle.drr.specs.declared.Table.{Table}
 use Rattle.drr.specs.declared.State.{State}
@@ -16,16 +16,15 @@ use Rattle.drr.specs.State.{Line, maximumOf, deficitOf, waitingOf, withV
 use Rattle.drr.specs.Facts.{Sound, SoundState}
 use Rattle.drr.specs.Answers.{Answer, idle, accepted, arrivalRefused, Outcome, outcome, Reply}
 use Rattle.drr.specs.Arrival.{put, arrivalOf}
-use Rattle.drr.specs.Pick.{after, firstOf, next, openAt, closed, emptied, sent, Ready, Looks, Picks}
+use Rattle.drr.specs.Pick.{after, firstOf, closed, emptied, Looks, Picks}
 use Rattle.drr.specs.Pick.Looks.{idles as finds-none, sends as serves, passes}
 use Rattle.drr.specs.Pick.Picks.{goes-on, closes, starts}
 use Rattle.drr.specs.Computed.{pickOf}
-use Rattle.drr.specs.Floor.{Call, arrives, picks, replyTo, afterCalls, callOf, lineAfter}
-use Rattle.drr.specs.Paper.{Memory, DC, count, assign, Point, line6, line12, line18, Reading, outside, inside, past, Runs}
+use Rattle.drr.specs.Floor.{Call, arrives, picks, afterCalls, callOf, lineAfter}
+use Rattle.drr.specs.Paper.{Memory, assign, Point, line6, line12, line18, Reading, outside, inside, past, Runs}
 use Rattle.drr.specs.Paper.{memoryOf, pointOf, memoryIn, pointIn, startMemory, startPoint, queues, Serves, answersTo}
 use Rattle.drr.specs.Paper.Runs.{idles, selects, skips, sends, leaves, zeroes, keeps}
 use Rattle.drr.specs.Paper.Serves.{ends, books, runs}
-use Rattle.drr.proofs.Bools.{dec}
 use Rattle.drr.proofs.Search.{after-in}
 use Rattle.drr.proofs.Steps.{found-in, visit-passes, on-ends}
 use Rattle.drr.proofs.One.{pick-is}
