@@ -237,7 +237,8 @@ calls-run T r l ok (arrives f x ∷ cs) = go (calls-run T r (arrivalOf T l f x .
         let there = arrives-anywhere T l f x 0 false in
         let stays : Serves T r (pointOf T l) (memoryOf (z .line)) cs xs q t =
         subst (λ (p : Point). Serves T r p (memoryOf (z .line)) cs xs q t) (ap (λ (w : Outcome). pointOf T (w .line)) here) rest in
-        subst (λ (b : Answer). Serves T r (pointOf T l) (memoryOf l) (arrives f x ∷ cs) (b ∷ xs) q t) (ap (λ (w : Outcome). w .answer) there)
+        subst (λ (b : Answer). Serves T r (pointOf T l) (memoryOf l) (arrives f x ∷ cs) (b ∷ xs) q t)
+        (ap (λ (w : Outcome). w .answer) there)
         (books (subst⁻¹ (λ (w : Outcome). Serves T r (pointOf T l) (memoryOf (w .line)) cs xs q t) there stays))
 
 -- ---- the same on states, by the public calls
@@ -255,12 +256,13 @@ serves-as : (T : Table) (l : Line) → Sound T l → (r : Reading) (cs : List Ca
 serves-as T l ok r cs =
     let s = stateFrom T l in
     let t = lineAfter T l cs in
+    let lines = subst⁻¹ (λ (m : Line). Serves T r (pointOf T m) (memoryOf m) cs (answersOf T l cs) (pointOf T t) (memoryOf t))
+    (line-back T l) (calls-run T r l ok cs) in
+    let ends = subst⁻¹ (λ (m : Line). Serves T r (pointIn s) (memoryIn s) cs (answersOf T l cs) (pointOf T m) (memoryOf m))
+    (line-back T t) lines in
     subst⁻¹ (λ (z : State). Serves T r (pointIn s) (memoryIn s) cs (answersTo s cs) (pointIn z) (memoryIn z)) (same T l ok cs .after)
     (subst⁻¹ (λ (xs : List Answer). Serves T r (pointIn s) (memoryIn s) cs xs (pointOf T t) (memoryIn (stateFrom T t)))
-    (answers-same T l ok cs)
-    (subst⁻¹ (λ (m : Line). Serves T r (pointOf T m) (memoryOf m) cs (answersOf T l cs) (pointOf T t) (memoryIn (stateFrom T t))) (line-back T l)
-    (subst⁻¹ (λ (m : Line). Serves T r (pointOf T l) (memoryOf l) cs (answersOf T l cs) (pointOf T m) (memoryOf m)) (line-back T t)
-    (calls-run T r l ok cs))))
+    (answers-same T l ok cs) ends)
 
 -- from any sound state, over any calls of arrival and pick, the listing gives the answers of the calls and stands where the state does ..
 pub listing-runs : (s : State) → SoundState s → (r : Reading) (cs : List Call) →
@@ -293,7 +295,8 @@ point-tells T l m x y p e =
 
     back : after n (l .place) ≡ after n (m .place) → l .place ≡ m .place
     back h = ⊎-elim
-        (λ a. ⊎-elim (λ b. steps (ltb (l .place + 1) n) (ltb (m .place + 1) n) refl refl h a b) (λ b. absurd (omega (arith, a, b .0))) (y .placed))
+        (λ a. ⊎-elim (λ b. steps (ltb (l .place + 1) n) (ltb (m .place + 1) n) refl refl h a b)
+        (λ b. absurd (omega (arith, a, b .0))) (y .placed))
         (λ a. ⊎-elim (λ b. absurd (omega (arith, b, a .0))) (λ b. a .1 ∙ sym (b .1)) (y .placed))
         (x .placed)
       where
