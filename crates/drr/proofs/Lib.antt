@@ -24,3 +24,4 @@ pub mod Service
 pub mod Demand3
 pub mod Rows
 pub mod Meaning
+pub mod Paper

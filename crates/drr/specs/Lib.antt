@@ -1,4 +1,5 @@
--- Document 01 as definitions, in its order. Facts.antt has soundness once more, as facts.
+-- Document 01 as definitions, in its order. Facts.antt has soundness once more, as facts. Paper.antt has
+-- document 000's listing.
 pub mod Limits
 pub mod State
 pub mod Sound
@@ -10,3 +11,4 @@ pub mod Computed
 pub mod Setup
 pub mod Figures
 pub mod Floor
+pub mod Paper
