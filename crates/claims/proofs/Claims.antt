@@ -22,6 +22,7 @@ use Rattle.drr.specs.Computed.{pickOf, pickReply}
 use Rattle.drr.specs.Setup.{setupReply}
 use Rattle.drr.specs.Figures.{allQuanta, lag, owed, wait}
 use Rattle.drr.specs.Floor.{Call, replyTo, afterCalls, lineAfter, bytesSent, flowSent, WaitsAtPicks, Floor}
+use Rattle.drr.specs.Paper.{Memory, Point, Reading, Serves, pointIn, memoryIn, startPoint, startMemory, answersTo}
 use Rattle.runfile.specs.declared.turns.Tally.{Tally}
 use Rattle.runfile.specs.File.{eventCount, eventsIn, fileAnswer, runAnswer}
 use Rattle.runfile.specs.Run.{Act, free, outcomeOf, Timed, bookedIn, callIn, callsIn, tableIn, runCalls}
@@ -37,6 +38,7 @@ use Rattle.drr.proofs.Keeps.{arrival-keeps, arrival-refused, pick-keeps}
 use Rattle.drr.proofs.Calls.{fresh-state-sound, setup-keeps, setup-refused, call-sound, call-hands-back, pick-fine, idle-still}
 use Rattle.drr.proofs.Figures as figures
 use Rattle.drr.proofs.Demand3 as demand3
+use Rattle.drr.proofs.Paper.{listing-runs, listing-runs-only, listing-starts}
 use Rattle.figures.proofs.Vectors.{Every, marked, p1-to-p12}
 use Rattle.runfile.proofs.Claims as run-claims
 use Rattle.runfile.proofs.Counts.{act-is-call}
@@ -82,6 +84,20 @@ pick-has-no-other = pick-only
 pub idle-twice : (s : State) → ShapedState s → pickReply s .answer ≡ idle →
     pickReply (pickReply s .state) ≡ reply idle (pickReply s .state)
 idle-twice = idle-still
+
+-- 000's own listing, as printed (specs/Paper.antt, where lines 18 to 20 can be read two ways): from any sound state, over any calls, it
+-- sends and answers what the public calls do, and nothing else; and it starts where a fresh state does
+pub listing-is-calls : (s : State) → SoundState s → (r : Reading) (cs : List Call) →
+    Serves (s .table) r (pointIn s) (memoryIn s) cs (answersTo s cs) (pointIn (afterCalls s cs)) (memoryIn (afterCalls s cs))
+listing-is-calls = listing-runs
+
+pub listing-is-only : (s : State) → SoundState s → (r : Reading) (cs : List Call) (xs : List Answer) (q : Point) (t : Memory) →
+    Serves (s .table) r (pointIn s) (memoryIn s) cs xs q t →
+    (xs ≡ answersTo s cs) × (q ≡ pointIn (afterCalls s cs)) × (t ≡ memoryIn (afterCalls s cs))
+listing-is-only = listing-runs-only
+
+pub listing-is-fresh : (T : Table) → (pointIn (freshState T) ≡ startPoint) × (memoryIn (freshState T) ≡ startMemory)
+listing-is-fresh = listing-starts
 
 -- ==== DEMAND 3: the floor, `Floor` in crates/drr/specs/Floor.antt. Its picks are `pickReply`'s, and by `pick-meets` (Meets.antt) so
 -- are the code's: what holds of the one holds of the other.
