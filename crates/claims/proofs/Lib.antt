@@ -1,4 +1,4 @@
-pub mod Shown
+pub mod Printed
 pub mod Claims
 pub mod Worked
 pub mod Exports
