@@ -1,6 +1,6 @@
 -- Claims.antt is the page; Meets.antt and One.antt have, function by function, that each meets its contract, and no second answer does.
-pub mod Shown
 pub mod Claims
 pub mod Meets
 pub mod One
 pub mod Worked
+pub mod Printed
