@@ -15,6 +15,6 @@ pub record Bookable (c : Common) (maxima : List ℕ) : Type 0 where
 -- of a flow that sends: a packet waits, and its charge is at most the deficit
 pub record Sendable (l : Line) (f : ℕ) : Type 0 where
   pub size : length (l .deficits) ≡ 16
-  pub flow : f < 16
+  pub flow : f < mostFlows
   pub waits : 0 < waitingOf l f
   pub enough : oldestCharge l f ≤ deficitOf l f

@@ -13,6 +13,7 @@ use drr::Spot;
 ghost use mathlib.Core.Path.{_≡_};
 ghost use mathlib.Core.Bool.{true, false};
 ghost use Prim.Native.Nat.{_+_, _-_, _≤_, _<_};
+ghost use Rattle.drr.specs.Limits.{mostFlows};
 ghost use Rattle.drr.specs.State.{tableOf, lineOf, spotAt, charge, shiftedOf};
 ghost use Rattle.drr.specs.Sound.{headb, numbersb, cellb, soundb};
 ghost use Rattle.drr.specs.Facts.{Sound};
@@ -37,7 +38,7 @@ fn charge_of(length: u16) -> u32
 
 // The flow after f, round a table of n.
 fn after_flow(n: usize, f: usize) -> usize
-    requires { ⌜ f < 16 ⌝ }
+    requires { ⌜ f < mostFlows ⌝ }
     ensures { λ r. ⌜ r ≡ after n f ⌝ }
 {
     if f + 1 < n { f + 1 } else { 0 }
@@ -46,8 +47,8 @@ fn after_flow(n: usize, f: usize) -> usize
 // The first flow with a packet waiting, from the flow after the place, round the table, the place
 // itself last.
 fn next_waiting(n: usize, counts: &[u8; 16], place: usize) -> Found
-    requires { ⌜ n ≤ 16 ⌝ }
-    requires { ⌜ place < 16 ⌝ }
+    requires { ⌜ n ≤ mostFlows ⌝ }
+    requires { ⌜ place < mostFlows ⌝ }
     ensures { λ r. ⌜ r ≡ firstOf n (now (counts .entry)) n place ⌝ }
 {
     let mut f = place;
@@ -115,9 +116,7 @@ fn look(
     rows: &mut [[u16; 32]; 16],
     start: usize,
 ) -> Picking
-    requires { ⌜
-        Sound (tableOf common (now quanta) (now maxima))
-        (lineOf (now counts) (now deficits) (now rows) (spotAt start false)) ⌝ }
+    requires { ⌜ Sound (tableOf common (now quanta) (now maxima)) (lineOf (now counts) (now deficits) (now rows) (spotAt start false)) ⌝ }
     ensures { λ r. ⌜
         outcome (pickPaper (r .answer)) (lineOf (now (counts .exit)) (now (deficits .exit)) (now (rows .exit)) (r .spot))
         ≡ lookOf (tableOf common (now (quanta .entry)) (now (maxima .entry))) 0
@@ -158,8 +157,7 @@ pub fn pick_in(
     rows: &mut [[u16; 32]; 16],
     spot: Spot,
 ) -> Picking
-    requires { ⌜
-        Sound (tableOf common (now quanta) (now maxima)) (lineOf (now counts) (now deficits) (now rows) spot) ⌝ }
+    requires { ⌜ Sound (tableOf common (now quanta) (now maxima)) (lineOf (now counts) (now deficits) (now rows) spot) ⌝ }
     ensures { λ r. ⌜
         outcome (pickPaper (r .answer)) (lineOf (now (counts .exit)) (now (deficits .exit)) (now (rows .exit)) (r .spot))
         ≡ pickOf (tableOf common (now (quanta .entry)) (now (maxima .entry)))

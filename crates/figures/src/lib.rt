@@ -12,6 +12,7 @@ ghost use mathlib.Core.List.{_++_};
 ghost use Prim.Native.Nat.{_+_, _*_, _-_, _/_, _≤_, _<_};
 ghost use lib.ListN.{length, getD, drop};
 ghost use Rattle.drr.specs.Answers.{Answer};
+ghost use Rattle.drr.specs.Limits.{mostFlows};
 ghost use Rattle.drr.specs.Facts.{SoundState};
 ghost use Rattle.drr.specs.Figures.{total, lag as lagOf, owed as owedOf, wait as waitOf};
 ghost use Rattle.figures.specs.Answers.{figurePaper, guardPaper, askedAnswer, owedAnswer, waitAnswer, lagAnswer};
@@ -63,7 +64,7 @@ fn rounded_up(x: u64, by: u64) -> u64
 
 // The sum of the first n cells: of all quanta it is F, of all maxima L.
 fn sum_of(cells: [u32; 16], n: usize) -> u64
-    requires { ⌜ n ≤ 16 ⌝ }
+    requires { ⌜ n ≤ mostFlows ⌝ }
     ensures { λ r. ⌜ r ≡ total n (λ f. getD cells f 0) ⌝ }
 {
     let mut sum: u64 = 0;

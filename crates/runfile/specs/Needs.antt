@@ -4,12 +4,13 @@ use mathlib.Core.List.{List}
 use Prim.Native.Nat.{ℕ, _+_, _*_, _≤_}
 use lib.Dec.{ltb, leb}
 use lib.ListN.{length}
+use Rattle.drr.specs.Limits.{mostEvents}
 use Rattle.runfile.specs.declared.turns.Tally.{Tally}
 use Rattle.runfile.specs.File.{eventAt}
 
 -- there is room for one line more
 abbrev pub Room : Tally → List ℕ → Type 0
-Room y out = (6 * (y .sent + y .refused) + 6 ≤ length out) × (y .sent + y .refused ≤ 1024)
+Room y out = (6 * (y .sent + y .refused) + 6 ≤ length out) × (y .sent + y .refused ≤ mostEvents)
 
 -- event `at` of m is there, and its tick is at or before now
 abbrev pub comeb : List ℕ → ℕ → ℕ → ℕ → Bool

@@ -12,12 +12,18 @@ use drr::Verdict;
 ghost use mathlib.Core.Path.{_≡_};
 ghost use Prim.Native.Nat.{_+_, _*_, _≤_, _<_};
 ghost use lib.ListN.{length};
+ghost use Rattle.drr.specs.Limits.{mostFlows, mostEvents};
 ghost use Rattle.drr.specs.State.{noFlows, freshState};
 ghost use Rattle.drr.specs.Answers.{numberOf, fine, refusedAt, verdictPaper, reply};
 ghost use Rattle.drr.specs.Setup.{setupAnswer, setupTable, recordsIn};
-ghost use Rattle.runfile.specs.File.{Narrow, noRecords, layoutIn, noTables, tablesb, Laid};
+ghost use Rattle.runfile.specs.File.{headerSize, Narrow, noRecords, layoutIn, noTables, tablesb, Laid};
 ghost use Rattle.runfile.specs.File.{headerAnswer, headerLayout, flowsFrom, flowsIn, eventsFrom, ticksAnswer};
 ghost use Rattle.runfile.specs.File.{fileAnswer, fileTable, fileEvents, flowsReply};
+
+// The header's bytes, and the most that a file may have (specs/File.antt).
+const HEADER_SIZE: usize = 20;
+
+const MOST_BYTES: usize = 12288;
 
 // A table of the file: how many records it has, and its offset.
 pub struct Part {
@@ -46,7 +52,7 @@ pub struct Contents {
 
 // The header's fields of the two tables.
 fn layout_of(file: &[u8]) -> Layout
-    requires { ⌜ 20 ≤ length (now file) ⌝ }
+    requires { ⌜ headerSize ≤ length (now file) ⌝ }
     ensures { λ r. ⌜ (r ≡ layoutIn (now (file .entry))) × Narrow (r .flows) × Narrow (r .events) ⌝ }
 {
     let flows = le2(file, 0);
@@ -73,7 +79,7 @@ fn tables_ok(flows: Part, events: Part, size: usize) -> bool
     let flows_end = flows.at + 8 * flows.count;
     let events_end = events.at + 8 * events.count;
     ((flows.at % 4 == 0) & (events.at % 4 == 0))
-        & ((20 <= flows.at) & (20 <= events.at))
+        & ((HEADER_SIZE <= flows.at) & (HEADER_SIZE <= events.at))
         & ((flows_end <= size) & (events_end <= size))
         & ((flows.count == 0)
             | (events.count == 0)
@@ -100,7 +106,7 @@ fn header(file: &[u8]) -> Headed
     ensures { λ r. ⌜ r .layout ≡ headerLayout (now (file .entry)) ⌝ }
 {
     let size = file.len();
-    if (size < 20) | (12288 < size) {
+    if (size < HEADER_SIZE) | (MOST_BYTES < size) {
         return no_tables(Refusal::FileLength);
     }
     if le4(file, 12) != size {
@@ -129,7 +135,7 @@ fn header(file: &[u8]) -> Headed
 
 // The n flow records that stand at the start of a part of the file.
 fn records(t: &[u8], n: usize) -> FlowList
-    requires { ⌜ (8 * n ≤ length (now t)) × (n ≤ 16) ⌝ }
+    requires { ⌜ (8 * n ≤ length (now t)) × (n ≤ mostFlows) ⌝ }
     ensures { λ r. ⌜ recordsIn r ≡ flowsFrom (now (t .entry)) 0 n ⌝ }
 {
     let none = FlowRecord {
@@ -155,7 +161,7 @@ fn records(t: &[u8], n: usize) -> FlowList
 
 // 13, of m events that stand at the start of a part of the file.
 fn ticks(t: &[u8], m: usize) -> Verdict
-    requires { ⌜ (8 * m ≤ length (now t)) × (m ≤ 1024) ⌝ }
+    requires { ⌜ (8 * m ≤ length (now t)) × (m ≤ mostEvents) ⌝ }
     ensures { λ r. ⌜ verdictPaper r ≡ ticksAnswer 0 0 (eventsFrom (now (t .entry)) 0 m) ⌝ }
 {
     let mut last: usize = 0;

@@ -11,6 +11,7 @@ ghost use mathlib.Core.Bool.{cond, false};
 ghost use mathlib.Core.List.{_++_, _∷_, []};
 ghost use Prim.Native.Nat.{_+_, _*_, _-_, _≤_, _<_};
 ghost use lib.ListN.{length, drop};
+ghost use Rattle.drr.specs.Limits.{mostEvents};
 ghost use Rattle.drr.specs.State.{spotAt};
 ghost use Rattle.drr.specs.Facts.{Ranged};
 ghost use Rattle.drr.specs.Answers.{arrivalPaper};
@@ -33,7 +34,7 @@ fn either(test: bool, a: usize, b: usize) -> usize
 
 // Line k of the lent list.
 fn put_line(out: &mut [u64], k: usize, a: usize, b: usize, c: usize, d: usize, e: usize, f: usize)
-    requires { ⌜ (6 * k + 6 ≤ length (now out)) × (k ≤ 1024) ⌝ }
+    requires { ⌜ (6 * k + 6 ≤ length (now out)) × (k ≤ mostEvents) ⌝ }
     ensures { λ _. ⌜ now (out .exit) ≡ written (now (out .entry)) k (a ∷ b ∷ c ∷ d ∷ e ∷ f ∷ []) ⌝ }
 {
     let at = 6 * k;
@@ -149,7 +150,7 @@ fn closed_at(place: usize) -> Spot
 
 // Whether event `at` of m is there, and its tick is at or before `tick`.
 fn has_come(t: &[u8], m: usize, at: usize, tick: usize) -> bool
-    requires { ⌜ (8 * m ≤ length (now t)) × (m ≤ 1024) ⌝ }
+    requires { ⌜ (8 * m ≤ length (now t)) × (m ≤ mostEvents) ⌝ }
     ensures { λ r. ⌜ r ≡ comeb (now (t .entry)) m at tick ⌝ }
 {
     if at < m {
@@ -162,7 +163,7 @@ fn has_come(t: &[u8], m: usize, at: usize, tick: usize) -> bool
 // The run of the m events that stand at the start of a part of the file, from tick 0 and a fresh line,
 // into a lent list with room for its lines.
 pub fn run_events(t: &[u8], m: usize, table: Table, out: &mut [u64])
-    requires { ⌜ (8 * m ≤ length (now t)) × (m ≤ 1024) ⌝ }
+    requires { ⌜ (8 * m ≤ length (now t)) × (m ≤ mostEvents) ⌝ }
     requires { ⌜ Ranged table × (1 ≤ table .n) ⌝ }
     requires { ⌜ 6 * (m + 1) ≤ length (now out) ⌝ }
     ensures { λ _. ⌜

@@ -17,6 +17,7 @@ use drr::Verdict;
 ghost use mathlib.Core.Path.{_≡_};
 ghost use Prim.Native.Nat.{_-_, _<_, _≤_, min};
 ghost use lib.ListN.{take};
+ghost use Rattle.drr.specs.Limits.{mostFlows};
 ghost use Rattle.drr.specs.State.{noFlows, freshState};
 ghost use Rattle.drr.specs.Answers.{numberOf, refusedAt, verdictPaper, reply};
 ghost use Rattle.drr.specs.Setup.{tableFor, flowsAnswer, setupAnswer, setupTable, setupReply, recordsIn};
@@ -68,7 +69,7 @@ pub fn refused(why: Refusal, place: usize) -> Tabled
 
 // The table of the first `count` records.
 fn filled(records: [FlowRecord; 17], count: usize) -> Table
-    requires { ⌜ count ≤ 16 ⌝ }
+    requires { ⌜ count ≤ mostFlows ⌝ }
     ensures { λ r. ⌜ r ≡ tableFor (take count records) ⌝ }
 {
     let mut quanta = [0u32; 16];
@@ -89,7 +90,7 @@ fn filled(records: [FlowRecord; 17], count: usize) -> Table
 
 // The first fault, flow by flow, the quantum's before the maximum's.
 fn flows_answer(records: [FlowRecord; 17], count: usize) -> Verdict
-    requires { ⌜ count ≤ 16 ⌝ }
+    requires { ⌜ count ≤ mostFlows ⌝ }
     ensures { λ r. ⌜ verdictPaper r ≡ flowsAnswer 0 (take count records) ⌝ }
 {
     let mut f: usize = 0;
