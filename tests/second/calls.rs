@@ -24,6 +24,7 @@ struct Tally {
     arrivals: u64,
     picks: u64,
     figures: u64,
+    long_waits: u64,
     differ: u64,
 }
 
@@ -102,6 +103,23 @@ fn figures(tally: &mut Tally, s: &State, dice: &mut Dice) {
     let wait = told_figure(drr::wait(s, flow));
     tally.compare("wait", &proved::wait(s, flow), &wait);
     tally.figures += 2;
+}
+
+/// The waits of small quanta beside large ones: the longest there are, past 32 bits.
+fn long_waits(tally: &mut Tally) {
+    for quantum in 1..=4 {
+        for flow in 0..16 {
+            let mut s = drr::empty();
+            (s.n, s.place) = (16, 15);
+            s.quanta = [65_535; 16];
+            s.maxima = [9_216; 16];
+            s.quanta[flow] = quantum;
+            let wait = drr::wait(&s, flow);
+            tally.compare("long wait", &proved::wait(&s, flow), &told_figure(wait));
+            tally.figures += 1;
+            tally.long_waits += u64::from(wait.is_ok_and(|bytes| bytes > u64::from(u32::MAX)));
+        }
+    }
 }
 
 /// A flow and a length to arrive, often at an edge.
@@ -237,6 +255,7 @@ fn main() {
     let mut floor = Floor::default();
     let mut dice = Dice(1995);
     try_setups(&mut tally, &mut dice);
+    long_waits(&mut tally);
     let broken = try_states(&mut tally, &mut dice);
     for _ in 0..CHAINS {
         chain(&mut tally, &mut floor, &mut dice);
@@ -249,11 +268,11 @@ fn main() {
         floor.held, floor.owing, floor.broken
     );
     println!(
-        "{} setups, {} soundness tests, {} arrivals, {} picks, {} figures",
-        tally.setups, tally.soundness, tally.arrivals, tally.picks, tally.figures
+        "{} setups, {} soundness tests, {} arrivals, {} picks, {} figures, {} of them waits past 32 bits",
+        tally.setups, tally.soundness, tally.arrivals, tally.picks, tally.figures, tally.long_waits
     );
     println!("{} calls compared, {} differ", tally.calls(), tally.differ);
-    let unseen = broken.contains(&0) || floor.owing == 0;
+    let unseen = broken.contains(&0) || floor.owing == 0 || tally.long_waits == 0;
     if tally.differ > 0 || floor.broken > 0 || unseen {
         std::process::exit(1);
     }

@@ -1,207 +1,146 @@
-//! The proved library, called as it stands: what crate `exports` gives other languages.
+//! The proved library, called as it stands: what crate `exports` gives other languages. Structs are
+//! declared as crates `drr` and `exports` declare them, field by field.
 
-use crate::drr::State;
+// each program that takes this file in uses only a part of it
+#![allow(dead_code)]
+
+use crate::drr;
 
 /// An answer: its refusal number, how many other numbers it has, these, and zeros.
 pub type Told = [u64; 6];
 
-type Numbers = [u32; 16];
-type Rows = [[u16; 32]; 16];
+#[derive(Clone, Copy)]
+#[repr(C)]
+struct FlowRecord {
+    quantum: u32,
+    maximum: u32,
+}
+
+#[repr(C)]
+struct FlowList {
+    records: [FlowRecord; 17],
+    count: usize,
+}
+
+#[repr(C)]
+struct Table {
+    n: usize,
+    quanta: [u32; 16],
+    maxima: [u32; 16],
+}
+
+#[repr(C)]
+struct Line {
+    deficits: [u32; 16],
+    counts: [u8; 16],
+    place: usize,
+    opened: bool,
+    /// A row is a struct of one array, which lies as the array does.
+    rows: [[u16; 32]; 16],
+}
+
+#[repr(C)]
+struct State {
+    table: Table,
+    line: Line,
+}
+
+#[repr(C)]
+struct Replied {
+    told: Told,
+    state: State,
+}
+
+#[repr(C)]
+struct Answered {
+    told: Told,
+}
+
+/// Refusal number and place, 0 and 0 where nothing is refused.
+#[derive(PartialEq, Debug)]
+#[repr(C)]
+pub struct Fault {
+    pub refusal: u32,
+    pub place: usize,
+}
 
 extern "C" {
-    fn wikulambag_setup(
-        quanta: &[u32; 17],
-        maxima: &[u32; 17],
-        count: usize,
-        n: &mut usize,
-        used: &mut Numbers,
-        most: &mut Numbers,
-        deficits: &mut Numbers,
-        counts: &mut [u8; 16],
-        place: &mut usize,
-        opened: &mut bool,
-        rows: &mut Rows,
-        told: &mut Told,
-    );
-    fn wikulambag_sound(
-        n: usize,
-        quanta: &Numbers,
-        maxima: &Numbers,
-        deficits: &Numbers,
-        counts: &[u8; 16],
-        place: usize,
-        opened: bool,
-        rows: &Rows,
-    ) -> bool;
-    fn wikulambag_arrival(
-        n: usize,
-        quanta: &Numbers,
-        maxima: &Numbers,
-        deficits: &mut Numbers,
-        counts: &mut [u8; 16],
-        place: &mut usize,
-        opened: &mut bool,
-        rows: &mut Rows,
-        flow: usize,
-        length: u32,
-        told: &mut Told,
-    );
-    fn wikulambag_pick(
-        n: usize,
-        quanta: &Numbers,
-        maxima: &Numbers,
-        deficits: &mut Numbers,
-        counts: &mut [u8; 16],
-        place: &mut usize,
-        opened: &mut bool,
-        rows: &mut Rows,
-        told: &mut Told,
-    );
-    fn wikulambag_owed(
-        n: usize,
-        quanta: &Numbers,
-        maxima: &Numbers,
-        deficits: &Numbers,
-        counts: &[u8; 16],
-        place: usize,
-        opened: bool,
-        rows: &Rows,
-        flow: usize,
-        bytes: u32,
-        told: &mut Told,
-    );
-    fn wikulambag_wait(
-        n: usize,
-        quanta: &Numbers,
-        maxima: &Numbers,
-        deficits: &Numbers,
-        counts: &[u8; 16],
-        place: usize,
-        opened: bool,
-        rows: &Rows,
-        flow: usize,
-        told: &mut Told,
-    );
+    fn wikulambag_setup(list: FlowList) -> Replied;
+    fn wikulambag_sound(s: State) -> bool;
+    fn wikulambag_arrival(s: State, flow: usize, length: u32) -> Replied;
+    fn wikulambag_pick(s: State) -> Replied;
+    fn wikulambag_owed(s: State, flow: usize, bytes: u32) -> Answered;
+    fn wikulambag_wait(s: State, flow: usize) -> Answered;
+    fn wikulambag_run(file: *const u8, size: usize, out: *mut u64, room: usize) -> Fault;
 }
 
-/// What an answer must not be left at, so that one that was never written shows.
-const UNWRITTEN: Told = [u64::MAX; 6];
-
-/// The state is written over what stands in `s`; at most 17 flows cross.
-pub fn setup(flows: &[(u32, u32)], s: &mut State) -> Told {
-    let (mut quanta, mut maxima) = ([0; 17], [0; 17]);
-    for (f, &(quantum, maximum)) in flows.iter().enumerate() {
-        quanta[f] = quantum;
-        maxima[f] = maximum;
-    }
-    let mut told = UNWRITTEN;
-    unsafe {
-        wikulambag_setup(
-            &quanta,
-            &maxima,
-            flows.len(),
-            &mut s.n,
-            &mut s.quanta,
-            &mut s.maxima,
-            &mut s.deficits,
-            &mut s.counts,
-            &mut s.place,
-            &mut s.opened,
-            &mut s.rows,
-            &mut told,
-        )
-    }
-    told
-}
-
-pub fn sound(s: &State) -> bool {
-    unsafe {
-        wikulambag_sound(
-            s.n,
-            &s.quanta,
-            &s.maxima,
-            &s.deficits,
-            &s.counts,
-            s.place,
-            s.opened,
-            &s.rows,
-        )
+impl From<&drr::State> for State {
+    fn from(s: &drr::State) -> State {
+        let table = Table {
+            n: s.n,
+            quanta: s.quanta,
+            maxima: s.maxima,
+        };
+        let line = Line {
+            deficits: s.deficits,
+            counts: s.counts,
+            place: s.place,
+            opened: s.opened,
+            rows: s.rows,
+        };
+        State { table, line }
     }
 }
 
-pub fn arrival(s: &mut State, flow: usize, length: u32) -> Told {
-    let mut told = UNWRITTEN;
-    unsafe {
-        wikulambag_arrival(
-            s.n,
-            &s.quanta,
-            &s.maxima,
-            &mut s.deficits,
-            &mut s.counts,
-            &mut s.place,
-            &mut s.opened,
-            &mut s.rows,
-            flow,
-            length,
-            &mut told,
-        )
+impl Replied {
+    /// The state is written over what stands in `s`.
+    fn hand_back(self, s: &mut drr::State) -> Told {
+        let State { table, line } = self.state;
+        *s = drr::State {
+            n: table.n,
+            quanta: table.quanta,
+            maxima: table.maxima,
+            deficits: line.deficits,
+            counts: line.counts,
+            place: line.place,
+            opened: line.opened,
+            rows: line.rows,
+        };
+        self.told
     }
-    told
 }
 
-pub fn pick(s: &mut State) -> Told {
-    let mut told = UNWRITTEN;
-    unsafe {
-        wikulambag_pick(
-            s.n,
-            &s.quanta,
-            &s.maxima,
-            &mut s.deficits,
-            &mut s.counts,
-            &mut s.place,
-            &mut s.opened,
-            &mut s.rows,
-            &mut told,
-        )
+/// At most 17 flows cross.
+pub fn setup(flows: &[(u32, u32)], s: &mut drr::State) -> Told {
+    let (quantum, maximum) = (0, 0);
+    let mut records = [FlowRecord { quantum, maximum }; 17];
+    for (record, &(quantum, maximum)) in records.iter_mut().zip(flows) {
+        *record = FlowRecord { quantum, maximum };
     }
-    told
+    let count = flows.len();
+    unsafe { wikulambag_setup(FlowList { records, count }) }.hand_back(s)
 }
 
-pub fn owed(s: &State, flow: usize, bytes: u32) -> Told {
-    let mut told = UNWRITTEN;
-    unsafe {
-        wikulambag_owed(
-            s.n,
-            &s.quanta,
-            &s.maxima,
-            &s.deficits,
-            &s.counts,
-            s.place,
-            s.opened,
-            &s.rows,
-            flow,
-            bytes,
-            &mut told,
-        )
-    }
-    told
+pub fn sound(s: &drr::State) -> bool {
+    unsafe { wikulambag_sound(s.into()) }
 }
 
-pub fn wait(s: &State, flow: usize) -> Told {
-    let mut told = UNWRITTEN;
-    unsafe {
-        wikulambag_wait(
-            s.n,
-            &s.quanta,
-            &s.maxima,
-            &s.deficits,
-            &s.counts,
-            s.place,
-            s.opened,
-            &s.rows,
-            flow,
-            &mut told,
-        )
-    }
-    told
+pub fn arrival(s: &mut drr::State, flow: usize, length: u32) -> Told {
+    unsafe { wikulambag_arrival(State::from(&*s), flow, length) }.hand_back(s)
+}
+
+pub fn pick(s: &mut drr::State) -> Told {
+    unsafe { wikulambag_pick(State::from(&*s)) }.hand_back(s)
+}
+
+pub fn owed(s: &drr::State, flow: usize, bytes: u32) -> Told {
+    unsafe { wikulambag_owed(s.into(), flow, bytes) }.told
+}
+
+pub fn wait(s: &drr::State, flow: usize) -> Told {
+    unsafe { wikulambag_wait(s.into(), flow) }.told
+}
+
+pub fn run(file: &[u8], out: &mut [u64]) -> Fault {
+    unsafe { wikulambag_run(file.as_ptr(), file.len(), out.as_mut_ptr(), out.len()) }
 }

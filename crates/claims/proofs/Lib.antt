@@ -1,4 +1,6 @@
-pub mod Shown
+-- Claims.antt is the page; Meets.antt and One.antt have, function by function, that each meets its contract, and no second answer does.
 pub mod Claims
+pub mod Meets
+pub mod One
 pub mod Worked
-pub mod Exports
+pub mod Printed

@@ -1,4 +1,5 @@
--- Document 01's run as calls: a stretch that meets what the floor asks, computed from the definitions.
+-- Two stretches that meet what the floor asks, computed from the definitions: document 01's run as calls, and one in which something
+-- is owed.
 use mathlib.Core.Path.{_≡_, refl}
 use mathlib.Core.List.{List, [], _∷_}
 use Prim.Native.Nat.{_≤_, _<_}
@@ -10,8 +11,8 @@ use Rattle.drr.specs.Answers.{guarded}
 use Rattle.drr.specs.Arrival.{arrivalOf}
 use Rattle.drr.specs.Pick.{firstOf}
 use Rattle.drr.specs.Computed.{lookFor}
-use Rattle.drr.specs.Setup.{setupAnswer, setupReply}
-use Rattle.drr.specs.Figures.{owed}
+use Rattle.drr.specs.Setup.{setupAnswer, setupTable, setupReply}
+use Rattle.drr.specs.Figures.{leastFrom, owed}
 use Rattle.drr.specs.Floor.{Call, arrives, picks, afterCalls, bytesSent, flowSent, WaitsAtPicks}
 use Rattle.claims.proofs.Claims.{setup-sound, the-floor}
 
@@ -40,7 +41,7 @@ pub record Run : Type 0 where
   pub sent : flowSent then stretch 1 ≡ 750
 
 pub run : Run
-unfolding all cellsb flowb soundb guarded arrivalOf firstOf lookFor setupAnswer setupReply
+unfolding all cellsb flowb soundb guarded arrivalOf firstOf lookFor setupAnswer setupTable
 run = record {
   waits = (lit< tt, (lit< tt, (lit< tt, (lit< tt, (lit< tt, tt)))));
   bytes = refl;
@@ -49,5 +50,32 @@ run = record {
 
 -- so the floor speaks of it
 pub floor-here : owed (setupReply flows .state .table) 1 (bytesSent then stretch) ≤ flowSent then stretch 1
-unfolding setupAnswer setupReply
+unfolding setupAnswer setupTable
 floor-here = the-floor (setupReply flows .state) (setup-sound flows) before stretch 1 (lit< tt) (run .waits)
+
+-- ---- two flows of quantum 1 and maximum 1, three packets each, four picks: of the 4 bytes each flow is owed 1, and receives 2
+abbrev pair : List FlowRecord
+pair = record { quantum = 1; maximum = 1 } ∷ record { quantum = 1; maximum = 1 } ∷ []
+
+abbrev arrivals : List Call
+arrivals = arrives 0 1 ∷ arrives 0 1 ∷ arrives 0 1 ∷ arrives 1 1 ∷ arrives 1 1 ∷ arrives 1 1 ∷ []
+
+abbrev four : List Call
+four = picks ∷ picks ∷ picks ∷ picks ∷ []
+
+abbrev both : State
+both = afterCalls (setupReply pair .state) arrivals
+
+pub record Owing : Type 0 where
+  pub waits : WaitsAtPicks both four 1
+  pub bytes : bytesSent both four ≡ 4
+  pub owes : owed (setupReply pair .state .table) 1 4 ≡ 1
+  pub sent : flowSent both four 1 ≡ 2
+
+pub owing : Owing
+unfolding all cellsb flowb soundb guarded arrivalOf firstOf lookFor setupAnswer setupTable owed leastFrom
+owing = record { waits = (lit< tt, (lit< tt, (lit< tt, (lit< tt, tt)))); bytes = refl; owes = refl; sent = refl }
+
+pub floor-owing : owed (setupReply pair .state .table) 1 (bytesSent both four) ≤ flowSent both four 1
+unfolding setupAnswer setupTable
+floor-owing = the-floor (setupReply pair .state) (setup-sound pair) arrivals four 1 (lit< tt) (owing .waits)

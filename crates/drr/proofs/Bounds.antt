@@ -10,7 +10,7 @@ use lib.Dec.{eqb}
 use lib.ListN.{length}
 use lib.Seq.{getD-set-same, getD-set-other}
 use Rattle.drr.specs.declared.Table.{Table}
-use Rattle.drr.specs.State.{Line, quantumOf, maximumOf, deficitOf, waitingOf, due}
+use Rattle.drr.specs.State.{Line, quantumOf, maximumOf, deficitOf, waitingOf, oldestCharge}
 use Rattle.drr.specs.Sound.{visited}
 use Rattle.drr.specs.Facts.{Sound}
 use Rattle.drr.specs.Pick.{sent}
@@ -31,8 +31,8 @@ module _ (T : Table) (l : Line) (ok : Sound T l) (j : ℕ) (in-table : j < T .n)
   low : j < 16
   low = omega (arith, ok .flows-few)
 
-  pub due-within : 0 < waitingOf l j → due l j ≤ maximumOf T j
-  due-within some = ok .flows j low .waiting 0 (omega arith) some .1
+  pub charge-within : 0 < waitingOf l j → oldestCharge l j ≤ maximumOf T j
+  charge-within some = ok .flows j low .waiting 0 (omega arith) some .1
 
   -- a flow without an open visit
   pub closed-below : visited l j ≡ false → deficitOf l j < maximumOf T j
@@ -40,7 +40,8 @@ module _ (T : Table) (l : Line) (ok : Sound T l) (j : ℕ) (in-table : j < T .n)
       let u = ok .flows j low in
       ⊎-elim
       (λ e. omega (arith, u .used in-table .maximum-least, u .credit in-table .empty-zero off e))
-      (λ ne. let some : 0 < waitingOf l j = omega (arith, ne) in omega (arith, due-within some, u .credit in-table .waiting-below off some))
+      (λ ne. let some : 0 < waitingOf l j = omega (arith, ne) in
+      omega (arith, charge-within some, u .credit in-table .waiting-below off some))
       (same? (waitingOf l j) 0)
 
 pub not-open : (l : Line) (j : ℕ) → l .opened ≡ false → visited l j ≡ false
@@ -59,29 +60,36 @@ sound-bounded T l ok j in-table = ⊎-elim
     (λ ne. omega (arith, closed-below T l ok j in-table (not-place l j ne)))
     (same? j (l .place))
   where
-    at-place : l .place < T .n → (b : Bool) → l .opened ≡ b → deficitOf l (l .place) + 0 < maximumOf T (l .place) + quantumOf T (l .place) * only (l .place) (bit b) (l .place)
+    at-place : l .place < T .n → (b : Bool) → l .opened ≡ b →
+        deficitOf l (l .place) + 0 < maximumOf T (l .place) + quantumOf T (l .place) * only (l .place) (bit b) (l .place)
     at-place at true on =
         rw (only-same (l .place) 1)
-        (omega (arith, ok .flows (l .place) (omega (arith, ok .flows-few)) .credit at .visited-below (rw (on, eq-eqb (l .place) (l .place) refl))))
+        (omega (
+          arith,
+          ok .flows (l .place) (omega (arith, ok .flows-few)) .credit at .visited-below
+              (rw (on, eq-eqb (l .place) (l .place) refl)),
+        ))
     at-place at false off = omega (arith, closed-below T l ok (l .place) at (not-open l (l .place) off))
 
 -- a packet sent in the open visit, and counted back
-pub sent-bounded : (T : Table) (l : Line) → l .opened ≡ true → l .place < length (l .deficits) → due l (l .place) ≤ deficitOf l (l .place) →
-    deficitOf l (l .place) < maximumOf T (l .place) + quantumOf T (l .place) → ((j : ℕ) → j < T .n → j ≢ l .place → deficitOf l j < maximumOf T j) →
-    Bounded T (sent l (l .place)) (only (l .place) (due l (l .place)))
+pub sent-bounded : (T : Table) (l : Line) → l .opened ≡ true → l .place < length (l .deficits) →
+    oldestCharge l (l .place) ≤ deficitOf l (l .place) →
+    deficitOf l (l .place) < maximumOf T (l .place) + quantumOf T (l .place) →
+    ((j : ℕ) → j < T .n → j ≢ l .place → deficitOf l j < maximumOf T j) →
+    Bounded T (sent l (l .place)) (only (l .place) (oldestCharge l (l .place)))
 sent-bounded T l on inside enough own others j in-table =
     ⊎-elim
-    (λ e. rw e (rw (only-same p (due l p), getD-set-same (l .deficits) p y 0 inside) (at-place (l .opened) on)))
-    (λ ne. rw (only-other p (due l p) j ne, getD-set-other (l .deficits) p j y 0 ne) (omega (arith, others j in-table ne)))
+    (λ e. rw e (rw (only-same p (oldestCharge l p), getD-set-same (l .deficits) p y 0 inside) (at-place (l .opened) on)))
+    (λ ne. rw (only-other p (oldestCharge l p) j ne, getD-set-other (l .deficits) p j y 0 ne) (omega (arith, others j in-table ne)))
     (same? j p)
   where
     p : ℕ
     p = l .place
 
     y : ℕ
-    y = deficitOf l p - due l p
+    y = deficitOf l p - oldestCharge l p
 
-    at-place : (b : Bool) → b ≡ true → y + due l p < maximumOf T p + quantumOf T p * only p (bit b) p
+    at-place : (b : Bool) → b ≡ true → y + oldestCharge l p < maximumOf T p + quantumOf T p * only p (bit b) p
     at-place true e = rw (only-same p 1) (omega (arith, own, enough))
     at-place false e = absurd (false≢true e)
 
@@ -90,7 +98,8 @@ module _ (T : Table) {Fit : Line → Type 0} {rank : Line → ℕ → ℕ} (O : 
   abbrev pub mid : Line → (ℕ → ℕ) → View
   mid l d = record { deficit = d; behind = λ j. less (rank l i) (rank l j) }
 
-  pub fair : (l : Line) → Fit l → (d : ℕ → ℕ) → ((j : ℕ) → j < T .n → d j < maximumOf T j + quantumOf T j * only (l .place) (bit (l .opened)) j) →
+  pub fair : (l : Line) → Fit l → (d : ℕ → ℕ) →
+      ((j : ℕ) → j < T .n → d j < maximumOf T j + quantumOf T j * only (l .place) (bit (l .opened)) j) →
       Fair (T .n) (quantumOf T) (λ j. maximumOf T j - 1) i (mid l d)
   fair l fit d bounded = by (same? i (l .place)) (l .opened) refl
     where
@@ -100,7 +109,8 @@ module _ (T : Table) {Fit : Line → Type 0} {rank : Line → ℕ → ℕ} (O : 
       bound : (b : Bool) → l .opened ≡ b → (j : ℕ) → j < T .n → d j < maximumOf T j + quantumOf T j * only (l .place) (bit b) j
       bound b e j k = rw e at (bounded j k)
 
-      others : (b : Bool) → l .opened ≡ b → (j : ℕ) → j < T .n → j ≢ i → d j ≤ maximumOf T j - 1 + quantumOf T j * less (rank l i) (rank l j)
+      others : (b : Bool) → l .opened ≡ b → (j : ℕ) → j < T .n → j ≢ i →
+          d j ≤ maximumOf T j - 1 + quantumOf T j * less (rank l i) (rank l j)
       others b e j k ne = ⊎-elim
           (λ t. at-place b e t)
           (λ t. omega (arith, rw (only-other (l .place) (bit b) j t) at (bound b e j k)))
@@ -110,7 +120,8 @@ module _ (T : Table) {Fit : Line → Type 0} {rank : Line → ℕ → ℕ} (O : 
           at-place true e t = rw (t, less-yes (top e i i<n (λ s. ne (t ∙ sym s)))) (omega (arith, rw (t, only-same) at (bound true e j k)))
           at-place false e t = omega (arith, rw only-zero at (bound false e j k))
 
-      by : (i ≡ l .place) ⊎ (i ≡ l .place → ⊥) → (b : Bool) → l .opened ≡ b → Fair (T .n) (quantumOf T) (λ j. maximumOf T j - 1) i (mid l d)
+      by : (i ≡ l .place) ⊎ (i ≡ l .place → ⊥) → (b : Bool) → l .opened ≡ b →
+          Fair (T .n) (quantumOf T) (λ j. maximumOf T j - 1) i (mid l d)
       by (inl t) true e =
           record {
             closed = 0;

@@ -16,7 +16,8 @@ use Rattle.drr.specs.Answers.{Outcome, outcome, Reply, reply, arrivalRef
 use Rattle.drr.specs.Arrival.{arrivalOf}
 use Rattle.drr.specs.Computed.{pickOf}
 use Rattle.drr.specs.Figures.{total, allQuanta, owed}
-use Rattle.drr.specs.Floor.{Call, arrives, picks, replyTo, afterCalls, sentIn, bytesIn, bytesSent, flowSent, WaitsAtPicks, Floor}
+use Rattle.drr.specs.Floor.{Call, arrives, picks, replyTo, afterCalls, callOf, lineAfter, sentIn, bytesIn, bytesSent, flowSent}
+use Rattle.drr.specs.Floor.{WaitsAtPicks, Floor}
 use Rattle.drr.proofs.Bools.{by-test}
 use Rattle.drr.proofs.Facts.{of-sound}
 use Rattle.drr.proofs.One.{pick-is}
@@ -32,21 +33,13 @@ use Rattle.drr.proofs.Bounds.{sound-bounded, fair}
 use Rattle.drr.proofs.Service.{view, picks-serve, booking}
 
 -- ---- calls on a line
-abbrev pub callOf : Table → Line → Call → Outcome
-callOf T l (arrives flow length) = arrivalOf T l flow length
-callOf T l picks = pickOf T l
-
-abbrev pub lineAfter : Table → Line → List Call → Line
-lineAfter T l [] = l
-lineAfter T l (c ∷ cs) = lineAfter T (callOf T l c .line) cs
-
 abbrev pub lineBytes : Table → Line → List Call → ℕ
 lineBytes T l [] = 0
-lineBytes T l (c ∷ cs) = bytesIn (callOf T l c .answer .numbers) + lineBytes T (callOf T l c .line) cs
+lineBytes T l (c ∷ cs) = bytesIn (callOf T l c .answer) + lineBytes T (callOf T l c .line) cs
 
 abbrev pub lineSent : Table → Line → List Call → ℕ → ℕ
 lineSent T l [] i = 0
-lineSent T l (c ∷ cs) i = sentIn (callOf T l c .answer .numbers) i + lineSent T (callOf T l c .line) cs i
+lineSent T l (c ∷ cs) i = sentIn (callOf T l c .answer) i + lineSent T (callOf T l c .line) cs i
 
 abbrev pub LineWaits : Table → Line → List Call → ℕ → Type 0
 LineWaits T l [] i = Unit {0}
@@ -67,8 +60,8 @@ module _ (T : Table) {Fit : Line → Type 0} {rank : Line → ℕ → ℕ} (O : 
   seenBy l = view T O i i<n l
 
   record Step (l : Line) (o : Outcome) : Type 0 where
-    run : Stretch (T .n) (quantumOf T) i (seenBy l) (sentIn (o .answer .numbers)) (seenBy (o .line))
-    whole : total (T .n) (sentIn (o .answer .numbers)) ≡ bytesIn (o .answer .numbers)
+    run : Stretch (T .n) (quantumOf T) i (seenBy l) (sentIn (o .answer)) (seenBy (o .line))
+    whole : total (T .n) (sentIn (o .answer)) ≡ bytesIn (o .answer)
     fit : Fit (o .line)
 
   arrival-steps : (l : Line) → Fit l → (f len : ℕ) → Step l (arrivalOf T l f len)
@@ -76,13 +69,19 @@ module _ (T : Table) {Fit : Line → Type 0} {rank : Line → ℕ → ℕ} (O : 
   arrival-steps l fit f len =
       by-test (Step l) (leb (T .n) f) (λ _. still) (λ a. by-test (Step l) (eqb len 0) (λ _. still) (λ b.
       by-test (Step l) (ltb (maximumOf T f) len) (λ _. still) (λ c. by-test (Step l) (leb 32 (waitingOf l f)) (λ _. still) (λ d.
-      record { run = booking T O i i<n l fit f len (leb-false (T .n) f a); whole = total-none (T .n); fit = O .fit-put l fit f len (leb-false (T .n) f a) }))))
+      record {
+        run = booking T O i i<n l fit f len (leb-false (T .n) f a);
+        whole = total-none (T .n);
+        fit = O .fit-put l fit f len
+            (leb-false (T .n) f a);
+      }))))
     where
       still : {k : ℕ} → Step l (outcome (arrivalRefused k) l)
       still = record { run = start (T .n) (quantumOf T) i (seenBy l); whole = total-none (T .n); fit = fit }
 
   pick-steps : (l : Line) → Sound T l → Fit l → 0 < waitingOf l i → Step l (pickOf T l)
-  pick-steps l ok fit w = let s = picks-serve T O i i<n (pick-is T l ok) ok fit in record { run = s .run w; whole = s .whole; fit = s .fit }
+  pick-steps l ok fit w = let s = picks-serve T O i i<n (pick-is T l ok) ok fit in
+      record { run = s .run w; whole = s .whole; fit = s .fit }
 
   pub record Ran (l : Line) (cs : List Call) : Type 0 where
     pub run : Stretch (T .n) (quantumOf T) i (seenBy l) (lineSent T l cs) (seenBy (lineAfter T l cs))
@@ -92,7 +91,7 @@ module _ (T : Table) {Fit : Line → Type 0} {rank : Line → ℕ → ℕ} (O : 
   then-ran : (l : Line) (c : Call) (cs : List Call) → Step l (callOf T l c) → Ran (callOf T l c .line) cs → Ran l (c ∷ cs)
   then-ran l c cs a b = record {
     run = follow (a .run) (b .run);
-    whole = total-add (T .n) (sentIn (callOf T l c .answer .numbers)) (lineSent T (callOf T l c .line) cs) ∙ omega (arith, a .whole, b .whole);
+    whole = total-add (T .n) (sentIn (callOf T l c .answer)) (lineSent T (callOf T l c .line) cs) ∙ omega (arith, a .whole, b .whole);
     fit = b .fit;
   }
 
@@ -110,18 +109,22 @@ module _ (T : Table) {Fit : Line → Type 0} {rank : Line → ℕ → ℕ} (O : 
     ran = running l ok fit cs w
 
     -- the floor with one taken off each maximum
-    pub floor-sharp : quantumOf T i * lineBytes T l cs ≤ allQuanta T * lineSent T l cs i + lagWith (T .n) (quantumOf T) (λ j. maximumOf T j - 1) i
+    pub floor-sharp : quantumOf T i * lineBytes T l cs
+        ≤ allQuanta T * lineSent T l cs i + lagWith (T .n) (quantumOf T) (λ j. maximumOf T j - 1) i
     floor-sharp =
         rw (← ran .whole)
         (floor i<n (fair T O i i<n l fit _ (λ j k. omega (arith, sound-bounded T l ok j k))) (ran .run)
-        (fair T O i i<n (lineAfter T l cs) (ran .fit) _ (λ j k. omega (arith, sound-bounded T (lineAfter T l cs) (calls-keep T l ok cs) j k))))
+        (fair T O i i<n (lineAfter T l cs) (ran .fit) _
+        (λ j k. omega (arith, sound-bounded T (lineAfter T l cs) (calls-keep T l ok cs) j k))))
 
     -- between i and another flow j
     pub pairwise-sharp : (j : ℕ) → j < T .n → j ≢ i →
-        quantumOf T i * lineSent T l cs j ≤ quantumOf T j * (lineSent T l cs i + (quantumOf T i + (maximumOf T i - 1))) + quantumOf T i * (maximumOf T j - 1)
+        quantumOf T i * lineSent T l cs j
+        ≤ quantumOf T j * (lineSent T l cs i + (quantumOf T i + (maximumOf T i - 1))) + quantumOf T i * (maximumOf T j - 1)
     pairwise-sharp =
         pairwise i<n (fair T O i i<n l fit _ (λ j k. omega (arith, sound-bounded T l ok j k))) (ran .run)
-        (fair T O i i<n (lineAfter T l cs) (ran .fit) _ (λ j k. omega (arith, sound-bounded T (lineAfter T l cs) (calls-keep T l ok cs) j k)))
+        (fair T O i i<n (lineAfter T l cs) (ran .fit) _
+        (λ j k. omega (arith, sound-bounded T (lineAfter T l cs) (calls-keep T l ok cs) j k)))
 
     -- .. and so with document 01's C
     pub floor-line : owed T i (lineBytes T l cs) ≤ lineSent T l cs i
@@ -131,15 +134,19 @@ module _ (T : Table) {Fit : Line → Type 0} {rank : Line → ℕ → ℕ} (O : 
         (omega (arith, floor-sharp, lag-mono (T .n) (quantumOf T) (λ j. maximumOf T j - 1) (maximumOf T) i i<n (λ j k. omega arith)))
 
 -- ---- from lines to states
-pub reply-is : (T : Table) (l : Line) → Sound T l → (c : Call) → replyTo (stateFrom T l) c ≡ reply (callOf T l c .answer) (stateFrom T (callOf T l c .line))
+pub reply-is : (T : Table) (l : Line) → Sound T l → (c : Call) →
+    replyTo (stateFrom T l) c ≡ reply (callOf T l c .answer) (stateFrom T (callOf T l c .line))
 reply-is T l ok c = go c
   where
     good : soundState (stateFrom T l) ≡ true
     good = of-sound T _ (whole-sound T l ok)
 
     go : (c : Call) → replyTo (stateFrom T l) c ≡ reply (callOf T l c .answer) (stateFrom T (callOf T l c .line))
-    go (arrives f len) = guarded-sound (stateFrom T l) (arrivalRefused 8) _ good ∙ ap (λ (k : Line). reply (arrivalOf T k f len .answer) (stateFrom T (arrivalOf T k f len .line))) (line-back T l)
-    go picks = guarded-sound (stateFrom T l) (pickRefused 8) _ good ∙ ap (λ (k : Line). reply (pickOf T k .answer) (stateFrom T (pickOf T k .line))) (line-back T l)
+    go (arrives f len) =
+        guarded-sound (stateFrom T l) (arrivalRefused 8) _ good
+        ∙ ap (λ (k : Line). reply (arrivalOf T k f len .answer) (stateFrom T (arrivalOf T k f len .line))) (line-back T l)
+    go picks = guarded-sound (stateFrom T l) (pickRefused 8) _ good
+        ∙ ap (λ (k : Line). reply (pickOf T k .answer) (stateFrom T (pickOf T k .line))) (line-back T l)
 
 -- the same calls on the state and on its line: what they leave, what they send, and whether a flow waits at each pick
 pub record Same (T : Table) (l : Line) (cs : List Call) : Type 0 where
@@ -152,16 +159,20 @@ pub same : (T : Table) (l : Line) → Sound T l → (cs : List Call) → Same T 
 same T l ok [] = record { after = refl; bytes = refl; sent = λ i. refl; waits = λ i w. w }
 same T l ok (c ∷ cs) = go c (reply-is T l ok c) (same T (callOf T l c .line) (call-keeps T l ok c) cs)
   where
-    waits : (c : Call) → replyTo (stateFrom T l) c ≡ reply (callOf T l c .answer) (stateFrom T (callOf T l c .line)) → Same T (callOf T l c .line) cs →
+    waits : (c : Call) → replyTo (stateFrom T l) c ≡ reply (callOf T l c .answer) (stateFrom T (callOf T l c .line)) →
+        Same T (callOf T l c .line) cs →
         (i : ℕ) → WaitsAtPicks (stateFrom T l) (c ∷ cs) i → LineWaits T l (c ∷ cs) i
     waits (arrives f len) e s i w = s .waits i (subst (λ (z : Reply). WaitsAtPicks (z .state) cs i) e w)
     waits picks e s i w = (w .0, s .waits i (subst (λ (z : Reply). WaitsAtPicks (z .state) cs i) e (w .1)))
 
-    go : (c : Call) → replyTo (stateFrom T l) c ≡ reply (callOf T l c .answer) (stateFrom T (callOf T l c .line)) → Same T (callOf T l c .line) cs → Same T l (c ∷ cs)
+    go : (c : Call) → replyTo (stateFrom T l) c ≡ reply (callOf T l c .answer) (stateFrom T (callOf T l c .line)) →
+        Same T (callOf T l c .line) cs → Same T l (c ∷ cs)
     go c e s = record {
       after = ap (λ (z : Reply). afterCalls (z .state) cs) e ∙ s .after;
-      bytes = ap (λ (z : Reply). bytesIn (z .answer .numbers) + bytesSent (z .state) cs) e ∙ ap (λ (k : ℕ). bytesIn (callOf T l c .answer .numbers) + k) (s .bytes);
-      sent = λ i. ap (λ (z : Reply). sentIn (z .answer .numbers) i + flowSent (z .state) cs i) e ∙ ap (λ (k : ℕ). sentIn (callOf T l c .answer .numbers) i + k) (s .sent i);
+      bytes = ap (λ (z : Reply). bytesIn (z .answer) + bytesSent (z .state) cs) e
+          ∙ ap (λ (k : ℕ). bytesIn (callOf T l c .answer) + k) (s .bytes);
+      sent = λ i. ap (λ (z : Reply). sentIn (z .answer) i + flowSent (z .state) cs i) e
+          ∙ ap (λ (k : ℕ). sentIn (callOf T l c .answer) i + k) (s .sent i);
       waits = waits c e s;
     }
 
@@ -193,7 +204,9 @@ abbrev PairAt : State → Type 0
 PairAt s =
     (before stretch : List Call) (i j : ℕ) → i < s .table .n → j < s .table .n → j ≢ i → WaitsAtPicks (afterCalls s before) stretch i →
     quantumOf (s .table) i * flowSent (afterCalls s before) stretch j
-    ≤ quantumOf (s .table) j * (flowSent (afterCalls s before) stretch i + (quantumOf (s .table) i + (maximumOf (s .table) i - 1))) + quantumOf (s .table) i * (maximumOf (s .table) j - 1)
+    ≤ quantumOf (s .table) j *
+    (flowSent (afterCalls s before) stretch i + (quantumOf (s .table) i + (maximumOf (s .table) i - 1))) + quantumOf (s .table) i *
+    (maximumOf (s .table) j - 1)
 
 pair-at : (T : Table) (l : Line) → Sound T l → PairAt (stateFrom T l)
 pair-at T l ok before stretch i j i<n j<n ne w =
@@ -202,7 +215,8 @@ pair-at T l ok before stretch i j i<n j<n ne w =
     let a = same T l ok before .after in
     let z = same T m ok' stretch in
     let w' = z .waits i (subst (λ (t : State). WaitsAtPicks t stretch i) a w) in
-    subst⁻¹ (λ (t : State). quantumOf T i * flowSent t stretch j ≤ quantumOf T j * (flowSent t stretch i + (quantumOf T i + (maximumOf T i - 1))) + quantumOf T i * (maximumOf T j - 1)) a
+    subst⁻¹ (λ (t : State). quantumOf T i * flowSent t stretch j
+    ≤ quantumOf T j * (flowSent t stretch i + (quantumOf T i + (maximumOf T i - 1))) + quantumOf T i * (maximumOf T j - 1)) a
     (rw (z .sent i, z .sent j) (pairwise-sharp T (cyclic T) i i<n m ok' (placed ok' i<n) stretch w' j j<n ne))
 
 pub pairs : (s : State) → SoundState s → PairAt s

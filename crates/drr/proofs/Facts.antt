@@ -9,29 +9,34 @@ use lib.Dec.{ltb, leb, eqb}
 use lib.ListN.{getD}
 use Rattle.drr.specs.declared.Table.{Table}
 use Rattle.drr.specs.State.{Line, quantumOf, maximumOf, deficitOf, waitingOf, rowOf, oldest, charge}
-use Rattle.drr.specs.Sound.{all, headb, rangeb, withinb, creditb, unusedb, numbersb, visited, cellsb, flowb, soundb}
+use Rattle.drr.specs.Limits.{leastQuantum, mostQuantum, leastMaximum, mostMaximum, mostWaiting}
+use Rattle.drr.specs.Sound.{all, quantumb, maximumb, headb, rangeb, withinb, creditb, unusedb, numbersb}
+use Rattle.drr.specs.Sound.{visited, cellsb, flowb, soundb}
 use Rattle.drr.specs.Facts.{Credit, InUse, Unused, Flow, Shaped, Sound}
-use Rattle.drr.proofs.Bools.{and-left, and-right, and-both, or-cases, or-inl, or-inr, not-of, chosen, choose, within-of, within-is, all-at, all-of}
+use Rattle.drr.proofs.Bools.{and-left, and-right, and-both, or-cases, or-inl, or-inr, not-of, chosen, choose, within-of}
+use Rattle.drr.proofs.Bools.{within-is, all-at, all-of}
 
 module _ (q m c : ℕ) where
   in-use : rangeb q m c ≡ true → InUse q m c
   in-use e =
-      let w = and-left (withinb 1 65535 q && withinb 1 9216 m) (leb c 32) e in
-      let wq = within-is 1 65535 q (and-left (withinb 1 65535 q) (withinb 1 9216 m) w) in
-      let wm = within-is 1 9216 m (and-right (withinb 1 65535 q) (withinb 1 9216 m) w) in
+      let w = and-left (quantumb q && maximumb m) (leb c mostWaiting) e in
+      let wq = within-is leastQuantum mostQuantum q (and-left (quantumb q) (maximumb m) w) in
+      let wm = within-is leastMaximum mostMaximum m (and-right (quantumb q) (maximumb m) w) in
       record {
         quantum-least = wq .0;
         quantum-most = wq .1;
         maximum-least = wm .0;
         maximum-most = wm .1;
-        count-most = leb-true c 32 (and-right (withinb 1 65535 q && withinb 1 9216 m) (leb c 32) e);
+        count-most = leb-true c mostWaiting (and-right (quantumb q && maximumb m) (leb c mostWaiting) e);
       }
 
   of-in-use : InUse q m c → rangeb q m c ≡ true
   of-in-use u =
       and-both
-      (and-both (within-of 1 65535 q (u .quantum-least) (u .quantum-most)) (within-of 1 9216 m (u .maximum-least) (u .maximum-most)))
-      (le-leb c 32 (u .count-most))
+      (and-both
+      (within-of leastQuantum mostQuantum q (u .quantum-least) (u .quantum-most))
+      (within-of leastMaximum mostMaximum m (u .maximum-least) (u .maximum-most)))
+      (le-leb c mostWaiting (u .count-most))
 
 module _ (v : Bool) (d q c o : ℕ) where
   abbrev closedb : Bool
@@ -43,7 +48,8 @@ module _ (v : Bool) (d q c o : ℕ) where
       record {
         visited-below = λ p. ltb-true d q (k .0 p);
         empty-zero = λ p z. eqb-true d 0 (chosen (eqb c 0) (eqb d 0) (ltb d (charge o)) (k .1 p) .0 (eq-eqb c 0 z));
-        waiting-below = λ p z. ltb-true d (charge o) (chosen (eqb c 0) (eqb d 0) (ltb d (charge o)) (k .1 p) .1 (ne-eqb c 0 (λ y. omega arith)));
+        waiting-below = λ p z. ltb-true d (charge o)
+            (chosen (eqb c 0) (eqb d 0) (ltb d (charge o)) (k .1 p) .1 (ne-eqb c 0 (λ y. omega arith)));
       }
 
   of-credit : Credit v d q c (charge o) → creditb v d q c o ≡ true
@@ -68,7 +74,8 @@ module _ (q m d c : ℕ) where
 
   of-unused : Unused q m d c → unusedb q m d c ≡ true
   of-unused u =
-      and-both (and-both (and-both (eq-eqb q 0 (u .no-quantum)) (eq-eqb m 0 (u .no-maximum))) (eq-eqb d 0 (u .no-deficit))) (eq-eqb c 0 (u .no-count))
+      and-both (and-both (and-both (eq-eqb q 0 (u .no-quantum)) (eq-eqb m 0 (u .no-maximum))) (eq-eqb d 0 (u .no-deficit)))
+      (eq-eqb c 0 (u .no-count))
 
 module _ (T : Table) (l : Line) (f : ℕ) where
   abbrev q : ℕ
@@ -112,7 +119,8 @@ module _ (T : Table) (l : Line) (f : ℕ) where
   of-flow u =
       and-both
       (choose (ltb f (T .n)) (rangeOf && creditOf) (unusedb q m d c)
-      (λ p. and-both (of-in-use q m c (u .used (ltb-true f (T .n) p))) (of-credit (visited l f) d q c (oldest l f) (u .credit (ltb-true f (T .n) p))))
+      (λ p. and-both (of-in-use q m c (u .used (ltb-true f (T .n) p)))
+      (of-credit (visited l f) d q c (oldest l f) (u .credit (ltb-true f (T .n) p))))
       (λ p. of-unused q m d c (u .unused (ltb-false f (T .n) p))))
       (all-of 32 (cellsb T l f)
       (λ k x. choose (ltb k c) (withinb 1 m (cell k)) (eqb (cell k) 0)
@@ -139,7 +147,11 @@ module _ (T : Table) (l : Line) where
             ⊎-elim
             (λ p. inl (ltb-true (l .place) (T .n) p))
             (λ p. let y = and-left zerob (not (l .opened)) p in
-            inr (eqb-true (T .n) 0 (and-left (eqb (T .n) 0) (eqb (l .place) 0) y), eqb-true (l .place) 0 (and-right (eqb (T .n) 0) (eqb (l .place) 0) y), not-true (l .opened) (and-right zerob (not (l .opened)) p)))
+            inr (
+              eqb-true (T .n) 0 (and-left (eqb (T .n) 0) (eqb (l .place) 0) y),
+              eqb-true (l .place) 0 (and-right (eqb (T .n) 0) (eqb (l .place) 0) y),
+              not-true (l .opened) (and-right zerob (not (l .opened)) p),
+            ))
             (or-cases (ltb (l .place) (T .n)) (zerob && not (l .opened)) (and-right (leb (T .n) 16) placeb h));
         flows = λ f x. flow-is T l f (all-at 16 (flowb T l) (and-right a b e) f x);
       }
@@ -152,6 +164,7 @@ module _ (T : Table) (l : Line) where
       (le-leb (T .n) 16 (u .flows-few))
       (⊎-elim
       (λ p. or-inl (ltb (l .place) (T .n)) (zerob && not (l .opened)) (lt-ltb (l .place) (T .n) p))
-      (λ p. or-inr (ltb (l .place) (T .n)) (zerob && not (l .opened)) (and-both (and-both (eq-eqb (T .n) 0 (p .0)) (eq-eqb (l .place) 0 (p .1))) (not-of (p .2))))
+      (λ p. or-inr (ltb (l .place) (T .n)) (zerob && not (l .opened))
+      (and-both (and-both (eq-eqb (T .n) 0 (p .0)) (eq-eqb (l .place) 0 (p .1))) (not-of (p .2))))
       (u .placed)))
       (all-of 16 (flowb T l) (λ f x. of-flow T l f (u .flows f x)))

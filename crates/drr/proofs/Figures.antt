@@ -3,7 +3,8 @@ use mathlib.Core.Path.{_≡_, ap, _∙_}
 use mathlib.Core.Bool.{Bool, true}
 use mathlib.Core.Logic.{_↔_, ⊎-elim}
 use Prim.Native.Nat.{ℕ, zero, suc, _+_, _*_, _-_, _/_, _≤_, _<_}
-use native.Mathlib.Nat.{add-zero, zero-add, mul-le-mul-left, mul-le-mul-right, le-of-mul-le-mul-left, div-lt-iff-lt-mul, lt-mul-div-succ, div-add-mod, mod-lt}
+use native.Mathlib.Nat.{add-zero, zero-add, mul-le-mul-left, mul-le-mul-right, le-of-mul-le-mul-left, div-lt-iff-lt-mul, lt-mul-div-succ}
+use native.Mathlib.Nat.{div-add-mod, mod-lt}
 use native.Mathlib.Omega.{arith}
 use borrow.Author.Tests.{leb-true, le-leb}
 use lib.Dec.{leb}
@@ -58,7 +59,8 @@ module _ (T : Table) (i : ℕ) (some : 0 < allQuanta T) where
   owed-least S =
       let QS = quantumOf T i * S in
       least-of (λ y. (leb-true (QS - lag T i) (allQuanta T * y), le-leb (QS - lag T i) (allQuanta T * y)))
-      (least-from (reachesb T i S) 0 QS (le-leb (QS - lag T i) (allQuanta T * (0 + QS)) (omega (arith, mul-le-mul-right QS some))) (λ y t. omega arith))
+      (least-from (reachesb T i S) 0 QS (le-leb (QS - lag T i) (allQuanta T * (0 + QS)) (omega (arith, mul-le-mul-right QS some)))
+      (λ y t. omega arith))
 
   pub owed-formula : (S : ℕ) → owed T i S ≡ (quantumOf T i * S - lag T i + (allQuanta T - 1)) / allQuanta T
   owed-formula S = least-one (owed-least S) (rounded-up (allQuanta T) (quantumOf T i * S - lag T i) some)
@@ -77,7 +79,8 @@ module _ (T : Table) (i : ℕ) (some : 0 < allQuanta T) where
   -- something is owed of S exactly where Q × S passes C
   pub owed-some : (S : ℕ) → (1 ≤ owed T i S) ↔ (lag T i < quantumOf T i * S)
   owed-some S = (
-    λ h. ⊎-elim (λ less. less) (λ more. absurd (let z = owed-at-most S 0 (omega arith) in omega arith)) (below? (lag T i) (quantumOf T i * S)),
+    λ h. ⊎-elim (λ less. less) (λ more. absurd (let z = owed-at-most S 0 (omega arith) in omega arith))
+        (below? (lag T i) (quantumOf T i * S)),
     λ h. ⊎-elim (λ less. less) (λ none. absurd (let z = owed-reaches S 0 none in omega arith)) (below? 0 (owed T i S)),
   )
 
@@ -88,7 +91,8 @@ module _ (T : Table) (i : ℕ) (some : 0 < allQuanta T) (quantum : 0 < quantumOf
   wait-least =
       least-of (λ S. (leb-true 1 (owed T i S), le-leb 1 (owed T i S)))
       (least-from (λ S. leb 1 (owed T i S)) 0 (lag T i + 1)
-      (le-leb 1 (owed T i (0 + (lag T i + 1))) (owed-some T i some (0 + (lag T i + 1)) .1 (omega (arith, mul-le-mul-right (0 + (lag T i + 1)) quantum))))
+      (le-leb 1 (owed T i (0 + (lag T i + 1)))
+      (owed-some T i some (0 + (lag T i + 1)) .1 (omega (arith, mul-le-mul-right (0 + (lag T i + 1)) quantum))))
       (λ y t. omega arith))
 
   pub wait-formula : wait T i ≡ lag T i / quantumOf T i + 1
@@ -120,4 +124,5 @@ module _ (T : Table) (one : T .n ≡ 1) (quantum : 0 < quantumOf T 0) where
       least-one (owed-least T 0 some S) (least-all (quantumOf T 0) (allQuanta T) (lag T 0) S quantum (all-is (quantumOf T)) one-flow-lag)
 
   pub one-flow-wait : wait T 0 ≡ 1
-  one-flow-wait = least-one (wait-least T 0 some quantum) (record { holds = omega (arith, one-flow-owed 1); least = λ S h. omega (arith, one-flow-owed S) })
+  one-flow-wait = least-one (wait-least T 0 some quantum)
+      (record { holds = omega (arith, one-flow-owed 1); least = λ S h. omega (arith, one-flow-owed S) })

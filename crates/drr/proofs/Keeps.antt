@@ -5,7 +5,6 @@ use Prim.Native.Nat.{ℕ, _+_}
 use native.Mathlib.Omega.{arith}
 use borrow.Author.Tests.{leb-false, ltb-false, eqb-false}
 use lib.Dec.{ltb, leb, eqb}
-use lib.ListN.{length}
 use Rattle.drr.specs.declared.Table.{Table}
 use Rattle.drr.specs.declared.Found.the-variants.{Nothing}
 use Rattle.drr.specs.State.{Line, maximumOf, waitingOf}
@@ -17,6 +16,7 @@ use Rattle.drr.specs.Pick.Looks.{idles, sends, passes}
 use Rattle.drr.specs.Pick.Picks.{goes-on, closes, starts}
 use Rattle.drr.specs.Computed.{look, turn, pickAt, pickOf}
 use Rattle.drr.proofs.Bools.{by-test}
+use Rattle.drr.proofs.Papers.{sent-not-idle}
 use Rattle.drr.proofs.Steps.{puts, visit-passes, visit-sends, on-sends, on-ends}
 use Rattle.drr.proofs.One.{look-unfolds, pick-is}
 
@@ -29,7 +29,8 @@ module _ (T : Table) (l : Line) (ok : Sound T l) (f len : ℕ) where
       by-test (λ (o : Outcome). Sound T (o .line)) (eqb len 0) (λ _. ok) (λ b.
       by-test (λ (o : Outcome). Sound T (o .line)) (ltb (maximumOf T f) len) (λ _. ok) (λ c.
       by-test (λ (o : Outcome). Sound T (o .line)) (leb 32 (waitingOf l f)) (λ _. ok) (λ d.
-      puts T l ok f (leb-false (T .n) f a) len (omega (arith, eqb-false len 0 b)) (ltb-false (maximumOf T f) len c) (leb-false 32 (waitingOf l f) d)))))
+      puts T l ok f (leb-false (T .n) f a) len (omega (arith, eqb-false len 0 b)) (ltb-false (maximumOf T f) len c)
+      (leb-false 32 (waitingOf l f) d)))))
 
 -- refused, it leaves the line as it came
 pub arrival-refused : (T : Table) (l : Line) (f len : ℕ) → (arrivalOf T l f len .answer .refusal ≡ 0 → ⊥) → arrivalOf T l f len .line ≡ l
@@ -56,18 +57,20 @@ pub pick-keeps : (T : Table) (l : Line) → Sound T l → Sound T (pickOf T l .l
 pick-keeps T l ok = picks-keep (pick-is T l ok) ok
 
 -- an idle pick leaves no visit open, and nothing to find
-looks-idle : {T : Table} {v : ℕ} {l : Line} {a : Answer} {t : Line} → Looks T v l a t → a ≡ idle → l .opened ≡ false → (t .opened ≡ false) × (next T t ≡ Nothing)
+looks-idle : {T : Table} {v : ℕ} {l : Line} {a : Answer} {t : Line} → Looks T v l a t → a ≡ idle → l .opened ≡ false →
+    (t .opened ≡ false) × (next T t ≡ Nothing)
 looks-idle (idles e) is off = (off, e)
-looks-idle (sends e enough) is off = absurd (let z = ap (λ (x : Answer). length (x .numbers)) is in omega arith)
+looks-idle (sends e enough) is off = absurd (sent-not-idle is)
 looks-idle (passes e short r) is off = looks-idle r is refl
 
 picks-idle : {T : Table} {l : Line} {a : Answer} {t : Line} → Picks T l a t → a ≡ idle → (t .opened ≡ false) × (next T t ≡ Nothing)
-picks-idle (goes-on on r) is = absurd (let z = ap (λ (x : Answer). length (x .numbers)) is in omega arith)
+picks-idle (goes-on on r) is = absurd (sent-not-idle is)
 picks-idle (closes on stuck r) is = looks-idle r is refl
 picks-idle (starts off r) is = looks-idle r is off
 
 -- "a second idle pick changes nothing"
-pub idle-again : (T : Table) (l : Line) → Sound T l → pickOf T l .answer ≡ idle → pickOf T (pickOf T l .line) ≡ outcome idle (pickOf T l .line)
+pub idle-again : (T : Table) (l : Line) → Sound T l → pickOf T l .answer ≡ idle →
+    pickOf T (pickOf T l .line) ≡ outcome idle (pickOf T l .line)
 idle-again T l ok is =
     let t = pickOf T l .line in
     let z = picks-idle (pick-is T l ok) is in

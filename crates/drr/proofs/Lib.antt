@@ -1,5 +1,6 @@
 -- Laws of the definitions.
 pub mod Bools
+pub mod Copies
 pub mod Search
 pub mod Facts
 pub mod Shape
@@ -22,3 +23,5 @@ pub mod Bounds
 pub mod Service
 pub mod Demand3
 pub mod Rows
+pub mod Meaning
+pub mod Paper

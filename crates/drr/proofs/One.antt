@@ -8,7 +8,8 @@ use lib.Dec.{ltb, leb}
 use Rattle.drr.specs.declared.Table.{Table}
 use Rattle.drr.specs.declared.Found.{Found}
 use Rattle.drr.specs.declared.Found.the-variants.{At, Nothing}
-use Rattle.drr.specs.State.{Line, deficitOf, waitingOf, oldest, due}
+use Rattle.drr.specs.Limits.{mostMaxima}
+use Rattle.drr.specs.State.{Line, deficitOf, waitingOf, oldest, oldestCharge}
 use Rattle.drr.specs.Facts.{Sound}
 use Rattle.drr.specs.Answers.{Answer, sentAs, Outcome, outcome}
 use Rattle.drr.specs.Pick.{next, openAt, closed, emptied, sent, Ready, Looks, Picks}
@@ -17,7 +18,8 @@ use Rattle.drr.specs.Pick.Picks.{goes-on, closes, starts}
 use Rattle.drr.specs.Computed.{serve, turn, lookFor, enough, look, carryOn, pickAt, pickOf}
 use Rattle.drr.proofs.Bools.{apart}
 use Rattle.drr.proofs.Steps.{visit-passes, on-ends}
-use Rattle.drr.proofs.Visits.{total, most, total-low, grows}
+use Rattle.drr.proofs.Sums.{sumOf}
+use Rattle.drr.proofs.Visits.{sum-low, grows}
 
 same-flow : (o : Found) (f g : ℕ) → o ≡ At f → o ≡ At g → f ≡ g
 same-flow o f g p q = cc
@@ -26,12 +28,15 @@ never : (o : Found) (f : ℕ) → o ≡ At f → o ≡ Nothing → ⊥
 never o f p q = let z : _≡_ {A = ℕ} 0 1 = cc in omega arith
 
 -- one flow cannot be sent from and be passed by
-never-both : (T : Table) (l : Line) (f g : ℕ) → next T l ≡ At f → next T l ≡ At g → due l f ≤ deficitOf (openAt T l f) f → deficitOf (openAt T l g) g < due l g → ⊥
+never-both : (T : Table) (l : Line) (f g : ℕ) → next T l ≡ At f → next T l ≡ At g → oldestCharge l f ≤ deficitOf (openAt T l f) f →
+    deficitOf (openAt T l g) g < oldestCharge l g → ⊥
 never-both T l f g p q enough short =
-    let z : deficitOf (openAt T l f) f < due l f = subst (λ (x : ℕ). deficitOf (openAt T l x) x < due l x) (same-flow (next T l) g f q p) short in
+    let z : deficitOf (openAt T l f) f < oldestCharge l f = subst (λ (x : ℕ). deficitOf (openAt T l x) x < oldestCharge l x)
+    (same-flow (next T l) g f q p) short in
     omega arith
 
-pub looks-one : {T : Table} {v : ℕ} {l : Line} {a : Answer} {t : Line} {b : Answer} {u : Line} → Looks T v l a t → Looks T v l b u → (a ≡ b) × (t ≡ u)
+pub looks-one : {T : Table} {v : ℕ} {l : Line} {a : Answer} {t : Line} {b : Answer} {u : Line} → Looks T v l a t → Looks T v l b u →
+    (a ≡ b) × (t ≡ u)
 looks-one {T} (idles p) (idles q) = (refl, refl)
 looks-one {T} (idles p) (sends q r) = absurd (never _ _ q p)
 looks-one {T} (idles p) (passes q r k) = absurd (never _ _ q p)
@@ -62,20 +67,23 @@ Is T v l r = Looks T v l (r .answer) (r .line)
 
 -- one turn, whatever a return to step 2 gives, as long as that is right with one visit more and a smaller measure
 module _ (T : Table) (v : ℕ) (l : Line) (ok : Sound T l) (off : l .opened ≡ false) (goto2 : Line → Outcome)
-    (on : (t : Line) → Sound T t → t .opened ≡ false → most - total (t .deficits) < most - total (l .deficits) → Is T (v + 1) t (goto2 t)) where
-  served-is : (f : ℕ) → next T l ≡ At f → (b : Bool) → leb (due l f) (deficitOf (openAt T l f) f) ≡ b → Is T v l (serve b (v + 1) (openAt T l f) f goto2)
+    (on : (t : Line) → Sound T t → t .opened ≡ false → mostMaxima - sumOf (t .deficits) < mostMaxima - sumOf (l .deficits) →
+    Is T (v + 1) t (goto2 t)) where
+  served-is : (f : ℕ) → next T l ≡ At f → (b : Bool) → leb (oldestCharge l f) (deficitOf (openAt T l f) f) ≡ b →
+      Is T v l (serve b (v + 1) (openAt T l f) f goto2)
   served-is f e true q = sends e (leb-true _ _ q)
   served-is f e false q =
-      let short = leb-false (due l f) (deficitOf (openAt T l f) f) q in
+      let short = leb-false (oldestCharge l f) (deficitOf (openAt T l f) f) q in
       let ok' = visit-passes T l ok f e off short in
-      passes e short (on (closed (openAt T l f)) ok' refl (omega (arith, grows T l ok f e, total-low T (closed (openAt T l f)) ok' refl)))
+      passes e short (on (closed (openAt T l f)) ok' refl (omega (arith, grows T l ok f e, sum-low T (closed (openAt T l f)) ok' refl)))
 
   turned-is : (o : Found) → next T l ≡ o → Is T v l (turn T v l o goto2)
   turned-is Nothing e = idles e
-  turned-is (At f) e = served-is f e (leb (due l f) (deficitOf (openAt T l f) f)) refl
+  turned-is (At f) e = served-is f e (leb (oldestCharge l f) (deficitOf (openAt T l f) f)) refl
 
 -- the computation never runs short: its count is above the measure
-looks-for : (T : Table) (k v : ℕ) (l : Line) → Sound T l → l .opened ≡ false → most - total (l .deficits) < k → Is T v l (lookFor T k v l)
+looks-for : (T : Table) (k v : ℕ) (l : Line) → Sound T l → l .opened ≡ false → mostMaxima - sumOf (l .deficits) < k →
+    Is T v l (lookFor T k v l)
 unfolding lookFor
 looks-for T zero v l ok off h = absurd (omega arith)
 looks-for T (suc k) v l ok off h =
@@ -87,7 +95,8 @@ look-is T v l ok off = looks-for T enough v l ok off (omega arith)
 -- the function without its count
 pub look-unfolds : (T : Table) (v : ℕ) (l : Line) → Sound T l → l .opened ≡ false → look T v l ≡ turn T v l (next T l) (look T (v + 1))
 look-unfolds T v l ok off =
-    let z = looks-one (look-is T v l ok off) (turned-is T v l ok off (look T (v + 1)) (λ t ok' off' less. look-is T (v + 1) t ok' off') (next T l) refl) in
+    let z = looks-one (look-is T v l ok off)
+    (turned-is T v l ok off (look T (v + 1)) (λ t ok' off' less. look-is T (v + 1) t ok' off') (next T l) refl) in
     λ i. record { answer = z .0 i; line = z .1 i }
 
 -- on a sound line there is an answer, the function's ..
@@ -95,15 +104,16 @@ pub pick-is : (T : Table) (l : Line) → Sound T l → Picks T l (pickOf T l .an
 pick-is T l ok = at-open (l .opened) refl
   where
     at-open : (b : Bool) → l .opened ≡ b → Picks T l (pickAt T b l .answer) (pickAt T b l .line)
-    at-open true on = on-test (ltb 0 (waitingOf l (l .place))) refl (leb (due l (l .place)) (deficitOf l (l .place))) refl
+    at-open true on = on-test (ltb 0 (waitingOf l (l .place))) refl (leb (oldestCharge l (l .place)) (deficitOf l (l .place))) refl
       where
         ends : (Ready l (l .place) → ⊥) → Picks T l (carryOn T false l .answer) (carryOn T false l .line)
         ends stuck = closes on stuck (look-is T 0 (closed (emptied l)) (on-ends T l ok on stuck) refl)
 
-        on-test : (w : Bool) → ltb 0 (waitingOf l (l .place)) ≡ w → (e : Bool) → leb (due l (l .place)) (deficitOf l (l .place)) ≡ e →
+        on-test : (w : Bool) → ltb 0 (waitingOf l (l .place)) ≡ w → (e : Bool) →
+            leb (oldestCharge l (l .place)) (deficitOf l (l .place)) ≡ e →
             Picks T l (carryOn T (w && e) l .answer) (carryOn T (w && e) l .line)
         on-test true p true q = goes-on on (ltb-true _ _ p, leb-true _ _ q)
-        on-test true p false q = ends (λ r. omega (arith, r .1, leb-false (due l (l .place)) (deficitOf l (l .place)) q))
+        on-test true p false q = ends (λ r. omega (arith, r .1, leb-false (oldestCharge l (l .place)) (deficitOf l (l .place)) q))
         on-test false p e q = ends (λ r. omega (arith, r .0, ltb-false 0 (waitingOf l (l .place)) p))
     at-open false off = starts off (look-is T 0 l ok off)
 

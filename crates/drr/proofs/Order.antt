@@ -1,4 +1,5 @@
--- All that the floor asks of an order of visits: ranks that say who is visited sooner, and that no step but a visit to i lets a flow pass i, where i waits.
+-- All that the floor asks of an order of visits: ranks that say who is visited sooner, and that no step but a visit to i lets a flow pass
+-- i, where i waits.
 use mathlib.Core.Path.{_≡_}
 use mathlib.Core.Logic.{_≢_}
 use mathlib.Core.Bool.{true, false}
@@ -13,7 +14,8 @@ use Rattle.drr.proofs.Ranks.{NoPass}
 -- `Fit l` is what the order itself keeps in the line
 pub record Order (T : Table) (Fit : Line → Type 0) (rank : Line → ℕ → ℕ) : Type 0 where
   -- the flow to visit has the least rank of those that wait; where there is none, nobody waits
-  pub best : (l : Line) → Fit l → l .opened ≡ false → (x : ℕ) → next T l ≡ At x → (i : ℕ) → i < T .n → 0 < waitingOf l i → rank l x ≤ rank l i
+  pub best : (l : Line) → Fit l → l .opened ≡ false → (x : ℕ) → next T l ≡ At x → (i : ℕ) → i < T .n → 0 < waitingOf l i →
+      rank l x ≤ rank l i
   pub none : (l : Line) → Fit l → l .opened ≡ false → next T l ≡ Nothing → (i : ℕ) → i < T .n → 0 < waitingOf l i → ⊥
   -- the flow with the open visit has the highest rank
   pub open-last : (l : Line) → Fit l → l .opened ≡ true → (j : ℕ) → j < T .n → j ≢ l .place → rank l j < rank l (l .place)
@@ -21,7 +23,8 @@ pub record Order (T : Table) (Fit : Line → Type 0) (rank : Line → ℕ → �
   pub opens : (l : Line) → Fit l → l .opened ≡ false → (x : ℕ) → next T l ≡ At x → (i : ℕ) → i < T .n → 0 < waitingOf l i → x ≢ i →
       NoPass (T .n) i (rank l) (rank (openAt T l x))
   pub closes : (l : Line) → Fit l → l .opened ≡ true → (i : ℕ) → i < T .n → 0 < waitingOf l i → NoPass (T .n) i (rank l) (rank (closed l))
-  pub empties : (l : Line) → Fit l → l .opened ≡ true → (i : ℕ) → i < T .n → 0 < waitingOf l i → NoPass (T .n) i (rank l) (rank (closed (emptied l)))
+  pub empties : (l : Line) → Fit l → l .opened ≡ true → (i : ℕ) → i < T .n → 0 < waitingOf l i →
+      NoPass (T .n) i (rank l) (rank (closed (emptied l)))
   pub sends : (l : Line) → Fit l → l .opened ≡ true → (i : ℕ) → NoPass (T .n) i (rank l) (rank (sent l (l .place)))
   pub books : (l : Line) → Fit l → (x length : ℕ) → x < T .n → (i : ℕ) → NoPass (T .n) i (rank l) (rank (put l x length))
   -- what the order keeps, is kept

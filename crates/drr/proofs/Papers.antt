@@ -1,11 +1,13 @@
 -- The paper's answers tell the enums' values apart: each has an inverse.
 use mathlib.Core.Path.{_≡_, refl, sym, ap, _∙_}
-use mathlib.Core.Bool.{false, cond}
+use mathlib.Core.Bool.{true, false, cond, true≢false}
 use Prim.Native.Nat.{ℕ}
 use lib.Dec.{eqb}
-use lib.ListN.{length, getD}
+use lib.ListN.{getD}
 use Rattle.drr.specs.declared.Refusal.{Refusal}
-use Rattle.drr.specs.declared.Refusal.the-variants.{UnknownFlow, NoLength, OverMaximum, RowFull, FlowCount, QuantumRange, MaximumRange, NotSound, FileLength, Reserved, EventCount, TablePlace, TickOrder, ListShort}
+use Rattle.drr.specs.declared.Refusal.the-variants.{UnknownFlow, NoLength, OverMaximum, RowFull}
+use Rattle.drr.specs.declared.Refusal.the-variants.{FlowCount, QuantumRange, MaximumRange, NotSound}
+use Rattle.drr.specs.declared.Refusal.the-variants.{FileLength, Reserved, EventCount, TablePlace, TickOrder, ListShort}
 use Rattle.drr.specs.declared.PickAnswer.{PickAnswer}
 use Rattle.drr.specs.declared.PickAnswer.the-variants as picks
 use Rattle.drr.specs.declared.ArrivalAnswer.{ArrivalAnswer}
@@ -13,7 +15,7 @@ use Rattle.drr.specs.declared.ArrivalAnswer.the-variants as arrivals
 use Rattle.drr.specs.declared.Verdict.{Verdict}
 use Rattle.drr.specs.declared.Verdict.the-variants as verdicts
 use Rattle.drr.specs.declared.Made.{Made}
-use Rattle.drr.specs.Answers.{numberOf, Answer, fine, refusedAt, pickPaper, arrivalPaper, verdictPaper, Reply, reply}
+use Rattle.drr.specs.Answers.{numberOf, Answer, fine, refusedAt, idle, sentAs, pickPaper, arrivalPaper, verdictPaper, Reply, reply}
 
 pub refusalOf : ℕ → Refusal
 refusalOf k =
@@ -58,7 +60,8 @@ pub number-some : (why : Refusal) → eqb (numberOf why) 0 ≡ false
 number-some why = named why .some
 
 pub verdictFrom : Answer → Verdict
-verdictFrom a = cond (eqb (a .refusal) 0) verdicts.Fine (verdicts.Refused (refusalOf (a .refusal)) (getD (a .numbers) 0 0))
+verdictFrom a =
+    cond (eqb (a .refusal) 0) verdicts.Fine (verdicts.Refused (refusalOf (a .refusal)) (getD (a .numbers) 0 0))
 
 pub verdict-back : (a : Verdict) → verdictFrom (verdictPaper a) ≡ a
 unfolding verdictFrom
@@ -70,7 +73,8 @@ pub fine-back : verdictPaper (verdictFrom fine) ≡ fine
 unfolding verdictFrom
 fine-back = refl
 
-pub refused-back : (why : Refusal) (place : ℕ) → verdictPaper (verdictFrom (refusedAt (numberOf why) place)) ≡ refusedAt (numberOf why) place
+pub refused-back : (why : Refusal) (place : ℕ) →
+    verdictPaper (verdictFrom (refusedAt (numberOf why) place)) ≡ refusedAt (numberOf why) place
 refused-back why place = ap verdictPaper (verdict-back (verdicts.Refused why place))
 
 arrivalFrom : Answer → ArrivalAnswer
@@ -84,8 +88,11 @@ arrival-back (arrivals.Refused why) = rw (named why .some, named why .back)
 pickFrom : Answer → PickAnswer
 pickFrom a =
     cond (eqb (a .refusal) 0)
-    (cond (eqb (length (a .numbers)) 0) picks.Idle (picks.Sent (getD (a .numbers) 0 0) (getD (a .numbers) 1 0) (getD (a .numbers) 2 0) (getD (a .numbers) 3 0)))
+    (cond (a .sends) (picks.Sent (nth 0) (nth 1) (nth 2) (nth 3)) picks.Idle)
     (picks.Refused (refusalOf (a .refusal)))
+  where
+    nth : ℕ → ℕ
+    nth k = getD (a .numbers) k 0
 
 pick-back : (a : PickAnswer) → pickFrom (pickPaper a) ≡ a
 unfolding pickFrom
@@ -94,7 +101,8 @@ pick-back (picks.Sent flow length deficit visits) = refl
 pick-back (picks.Refused why) = rw (named why .some, named why .back)
 
 -- two values with one paper answer are one value
-pub one-value : {A : Type 0} (paper : A → Answer) (from : Answer → A) → ((a : A) → from (paper a) ≡ a) → (a b : A) → paper a ≡ paper b → a ≡ b
+pub one-value : {A : Type 0} (paper : A → Answer) (from : Answer → A) → ((a : A) → from (paper a) ≡ a) →
+    (a b : A) → paper a ≡ paper b → a ≡ b
 one-value paper from back a b e = sym (back a) ∙ ap from e ∙ back b
 
 pub pick-one : (a b : PickAnswer) → pickPaper a ≡ pickPaper b → a ≡ b
@@ -107,5 +115,13 @@ pub verdict-one : (a b : Verdict) → verdictPaper a ≡ verdictPaper b → a �
 verdict-one = one-value verdictPaper verdictFrom verdict-back
 
 -- no second answer, place or state beside an answer is the same reply
-pub one-made : (w : Reply) (r t : Made) → reply (verdictPaper (r .answer)) (r .state) ≡ w → reply (verdictPaper (t .answer)) (t .state) ≡ w → r ≡ t
-one-made w r t p q = let e = p ∙ sym q in λ i. record { answer = verdict-one (r .answer) (t .answer) (ap (λ (z : Reply). z .answer) e) i; state = e i .state }
+pub one-made : (w : Reply) (r t : Made) →
+    reply (verdictPaper (r .answer)) (r .state) ≡ w → reply (verdictPaper (t .answer)) (t .state) ≡ w → r ≡ t
+one-made w r t p q =
+    let e = p ∙ sym q in
+    let a = verdict-one (r .answer) (t .answer) (ap (λ (z : Reply). z .answer) e) in
+    λ i. record { answer = a i; state = e i .state }
+
+-- a sending is not idle
+pub sent-not-idle : {f length d v : ℕ} → sentAs f length d v ≡ idle → ⊥
+sent-not-idle e = true≢false (ap (λ (a : Answer). a .sends) e)

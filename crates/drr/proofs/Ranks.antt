@@ -1,4 +1,5 @@
--- The steps of a scheduler as stretches, for deficits kept in a list and an order of visits given by ranks: a flow of lower rank is visited first.
+-- The steps of a scheduler as stretches, for deficits kept in a list and an order of visits given by ranks: a flow of lower rank is
+-- visited first.
 use mathlib.Core.Path.{_≡_, refl, sym}
 use mathlib.Core.Logic.{_≢_}
 use mathlib.Core.Bool.{Bool, true, false, cond}
@@ -78,7 +79,13 @@ module _ (n : ℕ) (Q : ℕ → ℕ) (i : ℕ) (ds : List ℕ) (r r' : ℕ → �
   -- an arrival; a visit that closes with packets left
   pub rest : NoPass n i r r' → Stretch n Q i (seen ds r i) (λ j. 0) (seen ds r' i)
   rest np =
-      record { visits = λ j. 0; spent = λ j l. omega arith; kept = omega arith; turns = λ j l ne. omega (arith, less-mono _ _ _ _ (np j l ne)) }
+      record {
+        visits = λ j. 0;
+        spent = λ j l. omega arith;
+        kept = omega arith;
+        turns = λ j l ne. omega
+            (arith, less-mono _ _ _ _ (np j l ne));
+      }
 
   module _ (x : ℕ) (x<n : x < length ds) where
     -- a step at the flow x alone: a visits to it, c sent by it, y its deficit after
@@ -101,7 +108,8 @@ module _ (n : ℕ) (Q : ℕ → ℕ) (i : ℕ) (ds : List ℕ) (r r' : ℕ → �
     turns-0 np j l ne = omega (arith, only-zero x j, less-mono _ _ _ _ (np j l ne))
 
     -- x sends c
-    pub send : (c : ℕ) → c ≤ getD ds x 0 → NoPass n i r r' → Stretch n Q i (seen ds r i) (only x c) (seen (set ds x (getD ds x 0 - c)) r' i)
+    pub send : (c : ℕ) → c ≤ getD ds x 0 → NoPass n i r r' →
+        Stretch n Q i (seen ds r i) (only x c) (seen (set ds x (getD ds x 0 - c)) r' i)
     send c h np = at 0 c _ (only x c) (only-same x c) (only-other x c) (omega arith) (λ e. omega arith) (turns-0 np)
 
     -- a visit to a flow other than i closes, and leaves it y of its deficit
@@ -110,12 +118,14 @@ module _ (n : ℕ) (Q : ℕ → ℕ) (i : ℕ) (ds : List ℕ) (r r' : ℕ → �
 
     -- a visit to i opens: the order may change in any way
     pub visit-own : (y : ℕ) → y ≡ getD ds x 0 + Q x → x ≡ i → Stretch n Q i (seen ds r i) (λ j. 0) (seen (set ds x y) r' i)
-    visit-own y q e = at 1 0 y (λ j. 0) refl (λ j _. refl) (omega arith) (λ _. omega arith) (λ j l ne. rw e (omega (arith, only-same i 1, only-other i 1 j ne, less-top (r i) (r j))))
+    visit-own y q e = at 1 0 y (λ j. 0) refl (λ j _. refl) (omega arith) (λ _. omega arith)
+        (λ j l ne. rw e (omega (arith, only-same i 1, only-other i 1 j ne, less-top (r i) (r j))))
 
     -- a visit to a flow that is not behind i opens, and puts it behind i
     pub visit-other : (y : ℕ) → y ≡ getD ds x 0 + Q x → x ≢ i → r x ≤ r i → r' i < r' x → NoPass n i r r'
         → Stretch n Q i (seen ds r i) (λ j. 0) (seen (set ds x y) r' i)
-    visit-other y q x≢i h h' np = at 1 0 y (λ j. 0) refl (λ j _. refl) (omega arith) (λ _. omega arith) (λ j l ne. turns j l ne (ℕ-discrete j x))
+    visit-other y q x≢i h h' np =
+        at 1 0 y (λ j. 0) refl (λ j _. refl) (omega arith) (λ _. omega arith) (λ j l ne. turns j l ne (ℕ-discrete j x))
       where
         turns : (j : ℕ) → j < n → j ≢ i → Dec (j ≡ x) → only x 1 j + less (r i) (r j) ≤ only x 1 i + less (r' i) (r' j)
         turns j l ne (yes e) = rw e (omega (arith, only-same x 1, less-no h, less-yes h'))

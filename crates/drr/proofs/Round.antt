@@ -81,7 +81,11 @@ module _ (n p : ℕ) (p<n : p < n) where
   unfolding AtStep
   step-on f m l at = by-test (λ (g : ℕ). (g < n) × ((g ≡ p + (m + 1)) ⊎ (g + n ≡ p + (m + 1)))) (ltb (f + 1) n)
       (λ e. (ltb-true (f + 1) n e, ⊎-elim (λ a. inl (omega arith)) (λ b. inr (omega arith)) (at .1)))
-      (λ e. (omega arith, ⊎-elim (λ a. inr (omega (arith, ltb-false (f + 1) n e, at .0))) (λ b. absurd (omega (arith, ltb-false (f + 1) n e))) (at .1)))
+      (λ e. (
+        omega arith,
+        ⊎-elim (λ a. inr (omega (arith, ltb-false (f + 1) n e, at .0)))
+            (λ b. absurd (omega (arith, ltb-false (f + 1) n e))) (at .1),
+      ))
 
   step-rank : (f m : ℕ) → 0 < m → m ≤ n → AtStep f m → round n p f ≡ p + m
   unfolding AtStep
@@ -101,7 +105,8 @@ module _ (n p : ℕ) (p<n : p < n) where
   search-says : (w : List ℕ) (k m f : ℕ) → m + k ≡ n → AtStep f m → Says w m (firstOf n w k f)
   unfolding firstOf AtStep
   search-says w zero m f e at = λ i l some past. omega (arith, rank-most i l)
-  search-says w (suc k) m f e at = go (ltb 0 (getD w (after n f) 0)) refl (firstOf n w k (after n f)) (search-says w k (m + 1) (after n f) (omega arith) on)
+  search-says w (suc k) m f e at =
+      go (ltb 0 (getD w (after n f) 0)) refl (firstOf n w k (after n f)) (search-says w k (m + 1) (after n f) (omega arith) on)
     where
       on : AtStep (after n f) (m + 1)
       on = step-on f m (omega arith) at
@@ -112,7 +117,8 @@ module _ (n p : ℕ) (p<n : p < n) where
       -- a flow that waits is past m + 1 steps, where the one at m + 1 does not wait
       further : ltb 0 (getD w (after n f) 0) ≡ false → (i : ℕ) → i < n → 0 < getD w i 0 → p + m < round n p i → p + (m + 1) < round n p i
       further off i l some past = ⊎-elim
-          (λ same. let z : after n f ≡ i = round-inj n p (after n f) i (on .0) l (here ∙ sym same) in absurd (omega (arith, rw z at (ltb-false 0 (getD w (after n f) 0) off))))
+          (λ same. let z : after n f ≡ i = round-inj n p (after n f) i (on .0) l (here ∙ sym same) in
+          absurd (omega (arith, rw z at (ltb-false 0 (getD w (after n f) 0) off))))
           (λ ne. omega (arith, ne))
           (same? (round n p i) (p + (m + 1)))
 
@@ -124,12 +130,14 @@ module _ (n p : ℕ) (p<n : p < n) where
   pub search-best : (w : List ℕ) (x : ℕ) → firstOf n w n p ≡ At x → (i : ℕ) → i < n → 0 < getD w i 0 → round n p x ≤ round n p i
   unfolding AtStep
   search-best w x e i l some =
-      let h : Says w 0 (At x) = subst (Says w 0) e (search-says w n 0 p (omega arith) (p<n, inl (omega arith))) in h i l some (omega (arith, rank-least i l))
+      let h : Says w 0 (At x) = subst (Says w 0) e (search-says w n 0 p (omega arith) (p<n, inl (omega arith))) in
+      h i l some (omega (arith, rank-least i l))
 
   pub search-none : (w : List ℕ) → firstOf n w n p ≡ Nothing → (i : ℕ) → i < n → 0 < getD w i 0 → ⊥
   unfolding AtStep
   search-none w e i l some =
-      let h : Says w 0 Nothing = subst (Says w 0) e (search-says w n 0 p (omega arith) (p<n, inl (omega arith))) in h i l some (omega (arith, rank-least i l))
+      let h : Says w 0 Nothing = subst (Says w 0) e (search-says w n 0 p (omega arith) (p<n, inl (omega arith))) in
+      h i l some (omega (arith, rank-least i l))
 
 -- ---- document 01's order: it keeps nothing in the line but the place
 abbrev pub Placed : Table → Line → Type 0
@@ -141,7 +149,8 @@ cyclic T =
       best = λ l p off x e. search-best (T .n) (l .place) p (l .counts) x e;
       none = λ l p off e. search-none (T .n) (l .place) p (l .counts) e;
       open-last = λ l p on j k ne. last (T .n) (l .place) j p k ne;
-      opens = λ l p off x e i k w ne. round-nopass (T .n) (l .place) x i p (found l x e) k ne (search-best (T .n) (l .place) p (l .counts) x e i k w);
+      opens = λ l p off x e i k w ne. round-nopass (T .n) (l .place) x i p (found l x e) k ne
+          (search-best (T .n) (l .place) p (l .counts) x e i k w);
       closes = λ l p on i k w j m ne t. t;
       empties = λ l p on i k w j m ne t. t;
       sends = λ l p on i j m ne t. t;

@@ -9,7 +9,7 @@ use lib.Dec.{ltb, leb, eqb}
 use lib.ListN.{length, set, take}
 use lib.Seq.{getD-set-same, getD-set-other}
 use Rattle.drr.specs.declared.Table.{Table}
-use Rattle.drr.specs.State.{Line, maximumOf, waitingOf, rowOf}
+use Rattle.drr.specs.State.{Line, maximumOf, waitingOf, rowOf, lengthsIn}
 use Rattle.drr.specs.Facts.{Sound}
 use Rattle.drr.specs.Answers.{Outcome}
 use Rattle.drr.specs.Arrival.{put, arrivalOf}
@@ -19,7 +19,7 @@ use Rattle.drr.proofs.Bools.{by-test, same?}
 use Rattle.drr.proofs.Steps.{low}
 use Rattle.drr.proofs.One.{pick-is}
 use Rattle.drr.proofs.Round.{cyclic}
-use Rattle.drr.proofs.Service.{lengthsIn, picks-serve}
+use Rattle.drr.proofs.Service.{picks-serve}
 use Rattle.drr.proofs.Demand3.{placed}
 
 take-set : (row : List ℕ) (c v : ℕ) → c < length row → take (suc c) (set row c v) ≡ take c row ++ (v ∷ [])
@@ -28,7 +28,7 @@ take-set (x ∷ xs) zero v h = refl
 take-set (x ∷ xs) (suc c) v h = ap (λ (r : List ℕ). x ∷ r) (take-set xs c v (omega arith))
 
 module _ (T : Table) (i : ℕ) (i<n : i < T .n) where
-  pub pick-takes : (l : Line) → Sound T l → lengthsIn l i ≡ givenIn (pickOf T l .answer .numbers) i ++ lengthsIn (pickOf T l .line) i
+  pub pick-takes : (l : Line) → Sound T l → lengthsIn l i ≡ givenIn (pickOf T l .answer) i ++ lengthsIn (pickOf T l .line) i
   pick-takes l ok = picks-serve T (cyclic T) i i<n (pick-is T l ok) ok (placed ok i<n) .took
 
   module _ (l : Line) (ok : Sound T l) (f len : ℕ) where
@@ -37,9 +37,18 @@ module _ (T : Table) (i : ℕ) (i<n : i < T .n) where
 
     put-adds : f < T .n → waitingOf l f < 32 → lengthsIn (put l f len) i ≡ lengthsIn l i ++ addedTo 0 f len i
     put-adds in-table room = ⊎-elim
-        (λ e. rw e (rw (eq-eqb f f refl, getD-set-same (l .counts) f (waitingOf l f + 1) 0 (omega (arith, ok .shape .counts-length, inside)), getD-set-same (l .rows) f (set (rowOf l f) (waitingOf l f) len) [] (omega (arith, ok .shape .rows-length, inside)))
-        (ap (λ (k : ℕ). take k (set (rowOf l f) (waitingOf l f) len)) next ∙ take-set (rowOf l f) (waitingOf l f) len (omega (arith, ok .shape .row-length f inside)))))
-        (λ ne. rw (ne-eqb f i (λ d. ne (sym d)), getD-set-other (l .counts) f i (waitingOf l f + 1) 0 ne, getD-set-other (l .rows) f i (set (rowOf l f) (waitingOf l f) len) [] ne) (sym (append-nil (lengthsIn l i))))
+        (λ e. rw e (rw (
+          eq-eqb f f refl,
+          getD-set-same (l .counts) f (waitingOf l f + 1) 0 (omega (arith, ok .shape .counts-length, inside)),
+          getD-set-same (l .rows) f (set (rowOf l f) (waitingOf l f) len) [] (omega (arith, ok .shape .rows-length, inside)),
+        )
+        (ap (λ (k : ℕ). take k (set (rowOf l f) (waitingOf l f) len)) next
+        ∙ take-set (rowOf l f) (waitingOf l f) len (omega (arith, ok .shape .row-length f inside)))))
+        (λ ne. rw (
+          ne-eqb f i (λ d. ne (sym d)),
+          getD-set-other (l .counts) f i (waitingOf l f + 1) 0 ne,
+          getD-set-other (l .rows) f i (set (rowOf l f) (waitingOf l f) len) [] ne,
+        ) (sym (append-nil (lengthsIn l i))))
         (same? i f)
       where
         inside : f < 16
@@ -52,7 +61,8 @@ module _ (T : Table) (i : ℕ) (i<n : i < T .n) where
     unfolding arrivalOf
     arrival-adds =
         by-test P (leb (T .n) f) (λ _. none) (λ a. by-test P (eqb len 0) (λ _. none) (λ _.
-        by-test P (ltb (maximumOf T f) len) (λ _. none) (λ _. by-test P (leb 32 (waitingOf l f)) (λ _. none) (λ d. put-adds (leb-false (T .n) f a) (leb-false 32 (waitingOf l f) d)))))
+        by-test P (ltb (maximumOf T f) len) (λ _. none)
+        (λ _. by-test P (leb 32 (waitingOf l f)) (λ _. none) (λ d. put-adds (leb-false (T .n) f a) (leb-false 32 (waitingOf l f) d)))))
       where
         none : lengthsIn l i ≡ lengthsIn l i ++ []
         none = sym (append-nil (lengthsIn l i))

@@ -11,7 +11,7 @@ use lib.ListN.{length, getD, set, take, length-set}
 use lib.Seq.{getD-set-same, getD-set-other, set-getD, take-append-le}
 use Rattle.drr.specs.declared.Table.{Table}
 use Rattle.drr.specs.declared.Found.the-variants.{At, Nothing}
-use Rattle.drr.specs.State.{Line, quantumOf, maximumOf, deficitOf, waitingOf, rowOf, oldest, due, shiftedOf}
+use Rattle.drr.specs.State.{Line, quantumOf, maximumOf, deficitOf, waitingOf, rowOf, lengthsIn, oldest, oldestCharge, shiftedOf}
 use Rattle.drr.specs.Facts.{Sound}
 use Rattle.drr.specs.Answers.{Answer, idle, sentAs}
 use Rattle.drr.specs.Arrival.{put}
@@ -21,16 +21,13 @@ use Rattle.drr.specs.Pick.Picks.{goes-on, closes, starts}
 use Rattle.drr.specs.Figures.{total}
 use Rattle.drr.specs.Floor.{givenIn, sentIn, bytesIn}
 use Rattle.drr.proofs.Bools.{same?}
+use Rattle.drr.proofs.Papers.{sent-not-idle}
 use Rattle.drr.proofs.Steps.{found-in, grown, before, visit-passes, place-in, open-below, on-ends}
 use Rattle.drr.proofs.Sums.{total-none, total-one}
 use Rattle.drr.proofs.Stretches.{View, Stretch, start, quiet}
 use Rattle.drr.proofs.Ranks.{only, only-same, only-other, seen, NoPass, rest, send, close, visit-own, visit-other}
 use Rattle.drr.proofs.Order.{Order}
-use Rattle.drr.proofs.Bounds.{Bounded, due-within, closed-below, not-open, not-place, sound-bounded, sent-bounded}
-
--- the lengths that wait in flow i, oldest first
-abbrev pub lengthsIn : Line → ℕ → List ℕ
-lengthsIn l i = take (waitingOf l i) (rowOf l i)
+use Rattle.drr.proofs.Bounds.{Bounded, charge-within, closed-below, not-open, not-place, sound-bounded, sent-bounded}
 
 -- sending takes the first of them
 take-first : (row : List ℕ) (c : ℕ) → 0 < c → c ≤ length row → take c row ≡ getD row 0 0 ∷ take (c - 1) (shiftedOf row)
@@ -54,16 +51,17 @@ module _ (T : Table) {Fit : Line → Type 0} {rank : Line → ℕ → ℕ} (O : 
   --   stays   a flow that was sent bytes is open     took    i's row before is what it was given and its row after
   --   nobody  an idle answer means that nobody waits fit     what the order keeps
   pub record Served (l : Line) (a : Answer) (t : Line) : Type 0 where
-    pub run : 0 < waitingOf l i → Stretch (T .n) (quantumOf T) i (view l) (sentIn (a .numbers)) (view t)
-    pub whole : total (T .n) (sentIn (a .numbers)) ≡ bytesIn (a .numbers)
-    pub back : Bounded T t (sentIn (a .numbers))
-    pub stays : (j : ℕ) → 0 < sentIn (a .numbers) j → (t .opened ≡ true) × (t .place ≡ j)
-    pub took : lengthsIn l i ≡ givenIn (a .numbers) i ++ lengthsIn t i
+    pub run : 0 < waitingOf l i → Stretch (T .n) (quantumOf T) i (view l) (sentIn a) (view t)
+    pub whole : total (T .n) (sentIn a) ≡ bytesIn a
+    pub back : Bounded T t (sentIn a)
+    pub stays : (j : ℕ) → 0 < sentIn a j → (t .opened ≡ true) × (t .place ≡ j)
+    pub took : lengthsIn l i ≡ givenIn a i ++ lengthsIn t i
     pub nobody : a ≡ idle → (j : ℕ) → j < T .n → 0 < waitingOf t j → ⊥
     pub fit : Fit t
 
   -- a silent step before, which leaves i's row as it was
-  after : {l m : Line} {a : Answer} {t : Line} → waitingOf l i ≡ waitingOf m i → rowOf l i ≡ rowOf m i → (0 < waitingOf l i → Quiet l m) → Served m a t → Served l a t
+  after : {l m : Line} {a : Answer} {t : Line} → waitingOf l i ≡ waitingOf m i → rowOf l i ≡ rowOf m i → (0 < waitingOf l i → Quiet l m) →
+      Served m a t → Served l a t
   after c r q s =
       record {
         run = λ w. quiet (q w) (s .run (rw c at w));
@@ -104,12 +102,14 @@ module _ (T : Table) {Fit : Line → Type 0} {rank : Line → ℕ → ℕ} (O : 
       opening : 0 < waitingOf l i → Quiet l there
       opening w = ⊎-elim
           (λ same. visit-own (T .n) (quantumOf T) i (l .deficits) (rank l) (rank there) x (inside x (found .0)) _ refl same)
-          (λ ne. visit-other (T .n) (quantumOf T) i (l .deficits) (rank l) (rank there) x (inside x (found .0)) _ refl ne (O .best l fit off x e i i<n w)
+          (λ ne. visit-other (T .n) (quantumOf T) i (l .deficits) (rank l) (rank there) x (inside x (found .0)) _ refl ne
+          (O .best l fit off x e i i<n w)
           (O .open-last there fit-there refl i i<n (λ d. ne (sym d))) (O .opens l fit off x e i i<n w ne))
           (same? x i)
 
       passing : 0 < waitingOf l i → Quiet l (closed there)
-      passing w = quiet (opening w) (rest (T .n) (quantumOf T) i (there .deficits) (rank there) (rank (closed there)) (O .closes there fit-there refl i i<n w))
+      passing w = quiet (opening w)
+          (rest (T .n) (quantumOf T) i (there .deficits) (rank there) (rank (closed there)) (O .closes there fit-there refl i i<n w))
 
     -- ---- step 1, where nothing is sent
     ending : l .opened ≡ true → 0 < waitingOf l i → Quiet l (closed (emptied l))
@@ -122,10 +122,12 @@ module _ (T : Table) {Fit : Line → Type 0} {rank : Line → ℕ → ℕ} (O : 
         pass = O .empties l fit on i i<n w
 
         by : (b : Bool) → ltb 0 (waitingOf l p) ≡ b →
-            Stretch (T .n) (quantumOf T) i (view l) (λ j. 0) (seen (set (l .deficits) p (cond b (deficitOf l p) 0)) (rank (closed (emptied l))) i)
+            Stretch (T .n) (quantumOf T) i (view l) (λ j. 0)
+            (seen (set (l .deficits) p (cond b (deficitOf l p) 0)) (rank (closed (emptied l))) i)
         by true e = rw (set-getD (l .deficits) p 0) (rest (T .n) (quantumOf T) i (l .deficits) (rank l) (rank (closed (emptied l))) pass)
         by false e =
-            close (T .n) (quantumOf T) i (l .deficits) (rank l) (rank (closed (emptied l))) p (inside p (place-in T l ok on)) 0 (omega arith)
+            close (T .n) (quantumOf T) i (l .deficits) (rank l) (rank (closed (emptied l))) p (inside p (place-in T l ok on)) 0
+            (omega arith)
             (λ d. omega (arith, rw d at (ltb-false 0 (waitingOf l p) e))) pass
 
   -- ---- a packet sent in the open visit of the line m, whose counts and rows are a sound line's
@@ -141,25 +143,38 @@ module _ (T : Table) {Fit : Line → Type 0} {rank : Line → ℕ → ℕ} (O : 
     pub own-below : deficitOf m (m .place) < maximumOf T (m .place) + quantumOf T (m .place)
     pub others-below : (j : ℕ) → j < T .n → j ≢ m .place → deficitOf m j < maximumOf T j
 
-  sending : (m : Line) → Open m → (v : ℕ) → Served m (sentAs (m .place) (oldest m (m .place)) (deficitOf (sent m (m .place)) (m .place)) v) (sent m (m .place))
+  sending : (m : Line) → Open m → (v : ℕ) →
+      Served m (sentAs (m .place) (oldest m (m .place)) (deficitOf (sent m (m .place)) (m .place)) v) (sent m (m .place))
   unfolding only
   sending m o v =
       record {
-        run = λ w. send (T .n) (quantumOf T) i (m .deficits) (rank m) (rank (sent m p)) p (o .deficits-in) (due m p) (o .ready .1) (O .sends m (o .fit) (o .on) i);
-        whole = total-one (T .n) (only p (due m p)) p (o .in-table) (only-other p (due m p)) ∙ only-same p (due m p);
+        run = λ w. send (T .n) (quantumOf T) i (m .deficits) (rank m) (rank (sent m p)) p (o .deficits-in) (oldestCharge m p) (o .ready .1)
+            (O .sends m (o .fit) (o .on) i);
+        whole = total-one (T .n) (only p (oldestCharge m p)) p (o .in-table) (only-other p (oldestCharge m p))
+            ∙ only-same p (oldestCharge m p);
         back = sent-bounded T m (o .on) (o .deficits-in) (o .ready .1) (o .own-below) (o .others-below);
         stays = λ j some. stays j (eqb p j) refl some;
-        took = ⊎-elim (λ e. rw e (rw (eq-eqb p p refl, getD-set-same (m .counts) p (waitingOf m p - 1) 0 (o .counts-in), getD-set-same (m .rows) p (shiftedOf (rowOf m p)) [] (o .rows-in)) (take-first (rowOf m p) (waitingOf m p) (o .ready .0) (o .count-in))))
-            (λ ne. rw (ne-eqb p i (λ d. ne (sym d)), getD-set-other (m .counts) p i (waitingOf m p - 1) 0 ne, getD-set-other (m .rows) p i (shiftedOf (rowOf m p)) [] ne) refl)
+        took = ⊎-elim (λ e. rw e
+            (rw (
+              eq-eqb p p refl,
+              getD-set-same (m .counts) p (waitingOf m p - 1) 0 (o .counts-in),
+              getD-set-same (m .rows) p (shiftedOf (rowOf m p)) [] (o .rows-in),
+            )
+            (take-first (rowOf m p) (waitingOf m p) (o .ready .0) (o .count-in))))
+            (λ ne. rw (
+              ne-eqb p i (λ d. ne (sym d)),
+              getD-set-other (m .counts) p i (waitingOf m p - 1) 0 ne,
+              getD-set-other (m .rows) p i (shiftedOf (rowOf m p)) [] ne,
+            ) refl)
             (same? i p);
-        nobody = λ is. absurd (let z = ap (λ (x : Answer). length (x .numbers)) is in omega arith);
+        nobody = λ is. absurd (sent-not-idle is);
         fit = O .fit-sent m (o .fit) (o .on);
       }
     where
       p : ℕ
       p = m .place
 
-      stays : (j : ℕ) (b : Bool) → eqb p j ≡ b → 0 < cond b (due m p) 0 → (m .opened ≡ true) × (p ≡ j)
+      stays : (j : ℕ) (b : Bool) → eqb p j ≡ b → 0 < cond b (oldestCharge m p) 0 → (m .opened ≡ true) × (p ≡ j)
       stays j true e some = (o .on, eqb-true p j e)
       stays j false e some = absurd (omega arith)
 
@@ -178,11 +193,13 @@ module _ (T : Table) {Fit : Line → Type 0} {rank : Line → ℕ → ℕ} (O : 
         rows-in = omega (arith, ok .shape .rows-length);
         count-in = omega (arith, ok .shape .row-length f low, ok .flows f low .used (k .0) .count-most);
         ready = (k .1, enough);
-        own-below = omega (arith, grown T l ok f e, before T l ok f e off, due-within T l ok f (k .0) (k .1));
-        others-below = λ j q ne. rw (getD-set-other (l .deficits) f j (deficitOf l f + quantumOf T f) 0 ne) (closed-below T l ok j q (not-open l j off));
+        own-below = omega (arith, grown T l ok f e, before T l ok f e off, charge-within T l ok f (k .0) (k .1));
+        others-below = λ j q ne. rw (getD-set-other (l .deficits) f j (deficitOf l f + quantumOf T f) 0 ne)
+            (closed-below T l ok j q (not-open l j off));
       }) (v + 1))
   looks-serve (passes {l = l} {f = f} e short r) ok off fit =
-      after refl refl (passing l fit ok off f e) (looks-serve r (visit-passes T l ok f e off short) refl (O .fit-closed (openAt T l f) (O .fit-opened l fit off f e) refl))
+      after refl refl (passing l fit ok off f e)
+      (looks-serve r (visit-passes T l ok f e off short) refl (O .fit-closed (openAt T l f) (O .fit-opened l fit off f e) refl))
 
   pub picks-serve : {l : Line} {a : Answer} {t : Line} → Picks T l a t → Sound T l → Fit l → Served l a t
   picks-serve (goes-on {l = l} on r) ok fit =

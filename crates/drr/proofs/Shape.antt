@@ -10,10 +10,13 @@ use denote.Laws.{Is}
 use denote.Array.{each}
 use denote.Shadow.{shadow}
 use lib.ListN.{length, getD, length-map, List·getD-map}
+use Rattle.drr.specs.declared.FlowList.{FlowList}
 use Rattle.drr.specs.declared.Row.{Row}
 use Rattle.drr.specs.declared.State.{State}
 use Rattle.drr.specs.State.{lengthsOf, rowFrom, lineIn}
 use Rattle.drr.specs.Facts.{Shaped}
+use Rattle.drr.proofs.FlowList as flow-list
+use Rattle.drr.proofs.FlowRecord as flow-record
 use Rattle.drr.proofs.Row as row
 use Rattle.drr.proofs.State as state
 
@@ -22,12 +25,17 @@ module _ (F : Field) where
   array-long : (n : ℕ) (xs : List (F .Value)) (vs : List Val) → Is (array-field F n .row) (map (F .into) xs) vs → length xs ≡ n
   array-long n xs vs g = sym (length-map xs (F .into)) ∙ g .1 .0 .1
 
-  each-at : (P : F .Value → Type 0) → ((x : F .Value) (vs : List Val) → Is (F .row) (F .into x) vs → P x) → (xs : List (F .Value)) (us : List Val) →
+  each-at : (P : F .Value → Type 0) → ((x : F .Value) (vs : List Val) → Is (F .row) (F .into x) vs → P x) →
+      (xs : List (F .Value)) (us : List Val) →
       shadow (each (F .row .Denot) (F .row .own) (map (F .into) xs) us) → (d : F .Value) (i : ℕ) → i < length xs → P (getD xs i d)
   each-at P h [] us g d i l = absurd (not-suc-le-zero l)
   each-at P h (x ∷ xs) [] g d i l = absurd g
   each-at P h (x ∷ xs) (u ∷ us) g d zero l = h x (u ∷ []) (g .0)
   each-at P h (x ∷ xs) (u ∷ us) g d (suc i) l = each-at P h xs us (g .1) d i (le-of-suc-le-suc l)
+
+-- the seventeen records of a list as it is carried
+pub list-long : (l : FlowList) (vs : List Val) → Is flow-list.the-row l vs → length (l .records) ≡ 17
+list-long l vs g = array-long flow-record.the-field 17 (l .records) _ (g .1 .1 .0)
 
 row-long : (r : Row) (vs : List Val) → Is row.the-row r vs → length (r .lengths) ≡ 32
 row-long r vs g = array-long u16-field 32 (r .lengths) _ (g .1 .1 .0)
@@ -46,5 +54,6 @@ shaped s vs g =
       rows-length = length-map (s .line .rows) lengthsOf ∙ long;
       row-length = λ f low.
           ap length (List·getD-map lengthsOf (s .line .rows) f (rowFrom []))
-          ∙ each-at row.the-field (λ (x : Row). length (x .lengths) ≡ 32) row-long (s .line .rows) (r .0) (r .1 .1) (rowFrom []) f (omega arith);
+          ∙ each-at row.the-field (λ (x : Row). length (x .lengths) ≡ 32) row-long (s .line .rows) (r .0) (r .1 .1) (rowFrom []) f
+          (omega arith);
     }

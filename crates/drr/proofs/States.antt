@@ -4,10 +4,11 @@ use mathlib.Core.Bool.{Bool, true, false, not}
 use mathlib.Core.List.{List, [], _∷_}
 use Prim.Native.Nat.{ℕ}
 use Rattle.drr.specs.declared.Row.{Row}
+use Rattle.drr.specs.declared.Common.{Common}
 use Rattle.drr.specs.declared.Table.{Table}
 use Rattle.drr.specs.declared.Line.{Line as StoredLine}
 use Rattle.drr.specs.declared.State.{State}
-use Rattle.drr.specs.State.{Line, lineOf, cellsIn, rowsFrom, lineIn, stateFrom}
+use Rattle.drr.specs.State.{Line, commonIn, tableOf, lineOf, spotAt, cellsIn, rowsFrom, lineIn, stateFrom}
 use Rattle.drr.specs.Sound.{soundState}
 use Rattle.drr.specs.Answers.{Answer, Outcome, outcome, reply, guarded}
 use Rattle.drr.proofs.Bools.{refuted, passed}
@@ -20,14 +21,18 @@ pub rows-back : (rows : List Row) → rowsFrom (cellsIn rows) ≡ rows
 rows-back [] = refl
 rows-back (x ∷ xs) = ap (λ (r : List Row). x ∷ r) (rows-back xs)
 
+-- a table taken apart
+pub table-apart : (T : Table) {c : Common} → c ≡ commonIn T → tableOf c (T .quanta) (T .maxima) ≡ T
+table-apart T is = ap (λ (k : Common). tableOf k (T .quanta) (T .maxima)) is
+
 -- a line taken apart, with its rows as cells
 pub line-apart : (l : StoredLine) (cells : List (List ℕ)) → cells ≡ cellsIn (l .rows) →
-    lineOf (l .counts) (l .deficits) cells (record { place = l .place; opened = l .opened }) ≡ lineIn l
+    lineOf (l .counts) (l .deficits) cells (spotAt (l .place) (l .opened)) ≡ lineIn l
 line-apart l cells is = rw is
 
 -- a line put together
 pub line-whole : (cs ds : List ℕ) (cells : List (List ℕ)) (p : ℕ) (o : Bool) (rows : List Row) → rows ≡ rowsFrom cells →
-    lineIn (record { deficits = ds; counts = cs; place = p; opened = o; rows = rows }) ≡ lineOf cs ds cells (record { place = p; opened = o })
+    lineIn (record { deficits = ds; counts = cs; place = p; opened = o; rows = rows }) ≡ lineOf cs ds cells (spotAt p o)
 line-whole cs ds cells p o rows is = rw (is, cells-back cells)
 
 -- the state made of the line in a stored line is the state with that line
@@ -57,12 +62,16 @@ module _ (s : State) (unsound : Answer) (o : Outcome) (r : Bool) (told : r ≡ s
   unfolding guarded
   refuses bad = rw (refuted told bad)
 
-  pub answers : not r ≡ false → (a : Answer) (l : StoredLine) → outcome a (lineIn l) ≡ o → reply a (record { table = s .table; line = l }) ≡ guarded s unsound o
+  pub answers : not r ≡ false → (a : Answer) (l : StoredLine) → outcome a (lineIn l) ≡ o →
+      reply a (record { table = s .table; line = l }) ≡ guarded s unsound o
   unfolding guarded
-  answers fine a l e = rw (passed told fine) (ap (λ (t : State). reply a t) (sym (state-back (s .table) l)) ∙ ap (λ (z : Outcome). reply (z .answer) (stateFrom (s .table) (z .line))) e)
+  answers fine a l e =
+      rw (passed told fine) (ap (λ (t : State). reply a t) (sym (state-back (s .table) l))
+      ∙ ap (λ (z : Outcome). reply (z .answer) (stateFrom (s .table) (z .line))) e)
 
 -- a call on a sound state, and on another
-pub guarded-sound : (s : State) (unsound : Answer) (o : Outcome) → soundState s ≡ true → guarded s unsound o ≡ reply (o .answer) (stateFrom (s .table) (o .line))
+pub guarded-sound : (s : State) (unsound : Answer) (o : Outcome) → soundState s ≡ true →
+    guarded s unsound o ≡ reply (o .answer) (stateFrom (s .table) (o .line))
 unfolding guarded
 guarded-sound s unsound o e = rw e
 

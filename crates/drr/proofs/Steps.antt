@@ -12,7 +12,8 @@ use lib.ListN.{length, getD, set, drop, length-set, length-append, length-drop, 
 use lib.Seq.{getD-set-same, getD-set-other, set-set}
 use Rattle.drr.specs.declared.Table.{Table}
 use Rattle.drr.specs.declared.Found.the-variants.{At}
-use Rattle.drr.specs.State.{Line, quantumOf, maximumOf, deficitOf, waitingOf, rowOf, charge, due, withDeficit, withRow, withVisit, shiftedOf}
+use Rattle.drr.specs.State.{Line, quantumOf, maximumOf, deficitOf, waitingOf, rowOf, charge, oldestCharge, withDeficit, withRow}
+use Rattle.drr.specs.State.{withVisit, shiftedOf}
 use Rattle.drr.specs.Sound.{visited}
 use Rattle.drr.specs.Facts.{Credit, FlowFacts, Flow, Shaped, Sound}
 use Rattle.drr.specs.Arrival.{put}
@@ -46,8 +47,19 @@ module _ {T : Table} {f : ℕ} {v : Bool} {d c : ℕ} {row : List ℕ} (u : Flow
   sent-flow long some d' small =
       let w = u .used in-table in
       record {
-        used = λ _. record { quantum-least = w .quantum-least; quantum-most = w .quantum-most; maximum-least = w .maximum-least; maximum-most = w .maximum-most; count-most = omega (arith, w .count-most) };
-        credit = λ _. record { visited-below = λ _. small; empty-zero = λ p. absurd (true≢false p); waiting-below = λ p. absurd (true≢false p) };
+        used = λ _. record {
+          quantum-least = w .quantum-least;
+          quantum-most = w .quantum-most;
+          maximum-least = w .maximum-least;
+          maximum-most = w .maximum-most;
+          count-most = omega (arith, w .count-most);
+        };
+        credit = λ _. record {
+          visited-below = λ _. small;
+          empty-zero = λ p. absurd (true≢false p);
+          waiting-below = λ p. absurd
+              (true≢false p);
+        };
         unused = λ y. absurd (omega arith);
         waiting = λ k x y. rw (shift-at row k) (u .waiting (k + 1) (omega (arith, w .count-most)) (omega arith));
         rest = λ k x y. shift-at row k ∙ ⊎-elim
@@ -62,12 +74,19 @@ module _ {T : Table} {f : ℕ} {v : Bool} {d c : ℕ} {row : List ℕ} (u : Flow
       let w = u .used in-table in
       let k₀ = u .credit in-table in
       record {
-        used = λ _. record { quantum-least = w .quantum-least; quantum-most = w .quantum-most; maximum-least = w .maximum-least; maximum-most = w .maximum-most; count-most = omega arith };
+        used = λ _. record {
+          quantum-least = w .quantum-least;
+          quantum-most = w .quantum-most;
+          maximum-least = w .maximum-least;
+          maximum-most = w .maximum-most;
+          count-most = omega arith;
+        };
         credit = λ _. record {
           visited-below = k₀ .visited-below;
           empty-zero = λ p z. absurd (omega arith);
           waiting-below = λ p z. ⊎-elim
-              (λ e. let x : d ≡ 0 = k₀ .empty-zero p (sym e) in let y : getD (set row c len) 0 0 ≡ len = (ap (λ (k : ℕ). getD (set row c len) k 0) e ∙ here) in omega arith)
+              (λ e. let x : d ≡ 0 = k₀ .empty-zero p (sym e) in
+              let y : getD (set row c len) 0 0 ≡ len = (ap (λ (k : ℕ). getD (set row c len) k 0) e ∙ here) in omega arith)
               (λ e. let x = k₀ .waiting-below p (omega (arith, e)) in omega (arith, there 0 e))
               (same? 0 c);
         };
@@ -127,7 +146,8 @@ module _ (T : Table) (l : Line) (ok : Sound T l) (p : ℕ) (in-table : p < T .n)
       let row = set (rowOf l p) (waitingOf l p) len in
       let long = ok .shape .row-length p low in
       record {
-        shape = changed-shape (l .deficits) (ok .shape .deficits-length) (waitingOf l p + 1) row (length-set (rowOf l p) (waitingOf l p) len ∙ long) (l .place) (l .opened);
+        shape = changed-shape (l .deficits) (ok .shape .deficits-length) (waitingOf l p + 1) row
+            (length-set (rowOf l p) (waitingOf l p) len ∙ long) (l .place) (l .opened);
         flows-few = ok .flows-few;
         placed = ok .placed;
         flows = λ g x. ⊎-elim
@@ -151,7 +171,8 @@ module _ (T : Table) (l : Line) (ok : Sound T l) (p : ℕ) (in-table : p < T .n)
     other false g ne = refl
 
     -- no packet sent, no visit open
-    rests : (d : ℕ) → (waitingOf l p ≡ 0 → d ≡ 0) → (0 < waitingOf l p → d < due l p) → Sound T (withVisit (withDeficit l p d) p false)
+    rests : (d : ℕ) → (waitingOf l p ≡ 0 → d ≡ 0) → (0 < waitingOf l p → d < oldestCharge l p) →
+        Sound T (withVisit (withDeficit l p d) p false)
     rests d a b = record {
       shape = record {
         quanta-length = ok .shape .quanta-length;
@@ -164,7 +185,9 @@ module _ (T : Table) (l : Line) (ok : Sound T l) (p : ℕ) (in-table : p < T .n)
       flows-few = ok .flows-few;
       placed = inl in-table;
       flows = λ g x. ⊎-elim
-          (λ e. rw e (rw (deficit-here d) (recredit was in-table false d (record { visited-below = λ z. absurd (false≢true z); empty-zero = λ _. a; waiting-below = λ _. b }))))
+          (λ e. rw e (rw (deficit-here d)
+          (recredit was in-table false d
+          (record { visited-below = λ z. absurd (false≢true z); empty-zero = λ _. a; waiting-below = λ _. b }))))
           (λ ne. rw (getD-set-other (l .deficits) p g d 0 ne, ← unmarked g ne) (ok .flows g x))
           (same? g p);
     }
@@ -173,13 +196,20 @@ module _ (T : Table) (l : Line) (ok : Sound T l) (p : ℕ) (in-table : p < T .n)
     serves : 0 < waitingOf l p → (d : ℕ) → d < quantumOf T p →
         Sound T (withVisit (withRow (withDeficit l p d) p (waitingOf l p - 1) (shiftedOf (rowOf l p))) p true)
     serves some d small = record {
-      shape = changed-shape (set (l .deficits) p d) (length-set (l .deficits) p d ∙ ok .shape .deficits-length) (waitingOf l p - 1) (shiftedOf (rowOf l p)) (shift-long (rowOf l p) (ok .shape .row-length p low)) p true;
+      shape = changed-shape (set (l .deficits) p d) (length-set (l .deficits) p d ∙ ok .shape .deficits-length) (waitingOf l p - 1)
+          (shiftedOf (rowOf l p)) (shift-long (rowOf l p) (ok .shape .row-length p low)) p true;
       flows-few = ok .flows-few;
       placed = inl in-table;
       flows = λ g x. ⊎-elim
           (λ e. rw e (rw (deficit-here d, count-here (waitingOf l p - 1), row-here (shiftedOf (rowOf l p)), eq-eqb p p refl)
           (sent-flow was in-table (ok .shape .row-length p low) some d small)))
-          (λ ne. rw (getD-set-other (l .deficits) p g d 0 ne, getD-set-other (l .counts) p g (waitingOf l p - 1) 0 ne, getD-set-other (l .rows) p g (shiftedOf (rowOf l p)) [] ne, other true g ne, ← unmarked g ne) (ok .flows g x))
+          (λ ne. rw (
+            getD-set-other (l .deficits) p g d 0 ne,
+            getD-set-other (l .counts) p g (waitingOf l p - 1) 0 ne,
+            getD-set-other (l .rows) p g (shiftedOf (rowOf l p)) [] ne,
+            other true g ne,
+            ← unmarked g ne,
+          ) (ok .flows g x))
           (same? g p);
     }
 
@@ -204,18 +234,18 @@ module _ (T : Table) (l : Line) (ok : Sound T l) (f : ℕ) (at : next T l ≡ At
     shut on = absurd (apart on off)
 
     -- the deficit before the visit
-    pub before : deficitOf l f < due l f
+    pub before : deficitOf l f < oldestCharge l f
     before =
         ok .flows f (low T l ok f (found .0)) .credit (found .0) .waiting-below (ap (λ (b : Bool). b && eqb (l .place) f) off) (found .1)
 
-    pub visit-passes : deficitOf (openAt T l f) f < due l f → Sound T (closed (openAt T l f))
+    pub visit-passes : deficitOf (openAt T l f) f < oldestCharge l f → Sound T (closed (openAt T l f))
     visit-passes short =
         rests T l ok f (found .0) shut (deficitOf l f + quantumOf T f) (λ z. absurd (omega (arith, found .1))) (λ _. rw grown at short)
 
-    pub visit-sends : due l f ≤ deficitOf (openAt T l f) f → Sound T (sent (openAt T l f) f)
+    pub visit-sends : oldestCharge l f ≤ deficitOf (openAt T l f) f → Sound T (sent (openAt T l f) f)
     visit-sends enough =
-        rw (set-set (l .deficits) f (deficitOf l f + quantumOf T f) (deficitOf (openAt T l f) f - due l f))
-        (serves T l ok f (found .0) shut (found .1) (deficitOf (openAt T l f) f - due l f) (omega (arith, grown, before, enough)))
+        rw (set-set (l .deficits) f (deficitOf l f + quantumOf T f) (deficitOf (openAt T l f) f - oldestCharge l f))
+        (serves T l ok f (found .0) shut (found .1) (deficitOf (openAt T l f) f - oldestCharge l f) (omega (arith, grown, before, enough)))
 
 -- ---- step 1, in an open visit
 module _ (T : Table) (l : Line) (ok : Sound T l) (on : l .opened ≡ true) where
@@ -228,11 +258,13 @@ module _ (T : Table) (l : Line) (ok : Sound T l) (on : l .opened ≡ true) where
 
   pub on-sends : Ready l (l .place) → Sound T (sent l (l .place))
   on-sends r =
-      let z = serves T l ok (l .place) place-in (λ _. refl) (r .0) (deficitOf l (l .place) - due l (l .place)) (omega (arith, open-below)) in
+      let z = serves T l ok (l .place) place-in (λ _. refl) (r .0) (deficitOf l (l .place) - oldestCharge l (l .place))
+      (omega (arith, open-below)) in
       rw on z
 
   pub on-ends : (Ready l (l .place) → ⊥) → Sound T (closed (emptied l))
   on-ends stuck =
       rests T l ok (l .place) place-in (λ _. refl) _
       (λ z. rw (le-ltb 0 (waitingOf l (l .place)) (omega arith)))
-      (λ z. rw (lt-ltb 0 (waitingOf l (l .place)) z) (⊎-elim (λ lt. lt) (λ le. absurd (stuck (z, le))) (below? (deficitOf l (l .place)) (due l (l .place)))))
+      (λ z. rw (lt-ltb 0 (waitingOf l (l .place)) z)
+      (⊎-elim (λ lt. lt) (λ le. absurd (stuck (z, le))) (below? (deficitOf l (l .place)) (oldestCharge l (l .place)))))

@@ -35,7 +35,8 @@ pub record Fair (n : ℕ) (Q m : ℕ → ℕ) (i : ℕ) (v : View) : Type 0 wher
 pub start : (n : ℕ) (Q : ℕ → ℕ) (i : ℕ) (v : View) → Stretch n Q i v (λ j. 0) v
 start n Q i v = record { visits = λ j. 0; spent = λ j l. omega arith; kept = omega arith; turns = λ j l ne. omega arith }
 
-pub follow : {n : ℕ} {Q : ℕ → ℕ} {i : ℕ} {u v w : View} {f g : ℕ → ℕ} → Stretch n Q i u f v → Stretch n Q i v g w → Stretch n Q i u (λ j. f j + g j) w
+pub follow : {n : ℕ} {Q : ℕ → ℕ} {i : ℕ} {u v w : View} {f g : ℕ → ℕ} → Stretch n Q i u f v → Stretch n Q i v g w →
+    Stretch n Q i u (λ j. f j + g j) w
 follow {i = i} a b =
     record {
       visits = λ j. a .visits j + b .visits j;
@@ -55,14 +56,16 @@ abbrev pub lagWith : ℕ → (ℕ → ℕ) → (ℕ → ℕ) → ℕ → ℕ
 lagWith n Q m i = Q i * (total n m - m i) + (total n Q - Q i) * (Q i + m i)
 
 -- (F and M: the sums of all quanta and of all m; G and N: those of the flows other than i; k: 1 if i is closed at the end, else 0)
-numbers : (Q F G M N m S b d p k : ℕ) → F ≡ Q + G → M ≡ m + N → S + (Q * (p + k) + m) ≤ F * (p + k) + M + b → Q * p ≤ b + d → d + Q * k ≤ Q + m →
+numbers : (Q F G M N m S b d p k : ℕ) → F ≡ Q + G → M ≡ m + N → S + (Q * (p + k) + m) ≤ F * (p + k) + M + b → Q * p ≤ b + d →
+    d + Q * k ≤ Q + m →
     Q * S ≤ F * b + (Q * N + G * (Q + m))
 numbers Q F G M N m S b d p k e e' x y z =
     let s : S ≤ G * (p + k) + N + b = omega (arith, (rw (e, e') at x)) in
     let r : Q * (p + k) ≤ b + (Q + m) = omega arith in
     rw e (omega (arith, mul-le-mul-left Q s, mul-le-mul-left G r))
 
-module _ {n : ℕ} {Q m : ℕ → ℕ} {i : ℕ} {v w : View} {sent : ℕ → ℕ} (i<n : i < n) (fv : Fair n Q m i v) (run : Stretch n Q i v sent w) (fw : Fair n Q m i w) where
+module _ {n : ℕ} {Q m : ℕ → ℕ} {i : ℕ} {v w : View} {sent : ℕ → ℕ} (i<n : i < n) (fv : Fair n Q m i v) (run : Stretch n Q i v sent w)
+    (fw : Fair n Q m i w) where
   -- a flow other than i is sent at most m, a quantum for each visit to i, and one more where a visit to i is yet to come
   other : (j : ℕ) → j < n → j ≢ i → sent j ≤ Q j * (run .visits i + fw .closed) + m j
   other j l ne =
@@ -78,7 +81,8 @@ module _ {n : ℕ} {Q m : ℕ → ℕ} {i : ℕ} {v w : View} {sent : ℕ → �
 
   pub floor : Q i * total n sent ≤ total n Q * sent i + lagWith n Q m i
   floor =
-      numbers (Q i) (total n Q) (total n Q - Q i) (total n m) (total n m - m i) (m i) (total n sent) (sent i) (w .deficit i) (run .visits i) (fw .closed)
+      numbers (Q i) (total n Q) (total n Q - Q i) (total n m) (total n m - m i) (m i) (total n sent) (sent i) (w .deficit i)
+      (run .visits i) (fw .closed)
       (omega (arith, total-at n Q i i<n)) (omega (arith, total-at n m i i<n))
       (rw (← total-linear) (total-but n sent (λ j. Q j * (run .visits i + fw .closed) + m j) i i<n other))
       (omega (arith, run .kept)) (fw .own)

@@ -1,10 +1,14 @@
 -- Sums over the flows of a table, also with one flow left out.
 use mathlib.Core.Path.{_≡_}
+use mathlib.Core.List.{List}
 use mathlib.Core.Logic.{_≢_}
 use Prim.Native.Nat.{ℕ, zero, suc, _+_, _*_, _≤_, _<_}
 use native.Mathlib.Decide.{ℕ-discrete}
 use native.Mathlib.Numerals.{add-one}
 use native.Mathlib.Omega.{arith}
+use lib.ListN.{length, getD, set}
+use lib.Seq.{getD-set-same, getD-set-other}
+use Rattle.drr.specs.Limits.{mostFlows}
 use Rattle.drr.specs.Figures.{total}
 
 -- one flow more, as a loop counts
@@ -47,3 +51,32 @@ total-one n f i l h =
 pub total-most : (n : ℕ) (f : ℕ → ℕ) (b : ℕ) → ((j : ℕ) → j < n → f j ≤ b) → total n f ≤ n * b
 total-most zero f b h = omega arith
 total-most (suc n) f b h = omega (arith, total-most n f b (λ j l. h j (omega arith)), h n (omega arith))
+
+-- ---- the sum of the numbers that a list has for the flows; shut, so that arithmetic takes it for one number
+unfoldable pub sumOf : List ℕ → ℕ
+sumOf xs = total mostFlows (λ f. getD xs f 0)
+
+total-set : (n : ℕ) (xs : List ℕ) (i v : ℕ) → i < n → i < length xs →
+    total n (λ f. getD (set xs i v) f 0) + getD xs i 0 ≡ total n (λ f. getD xs f 0) + v
+total-set n xs i v low inside =
+    omega (
+      arith,
+      getD-set-same xs i v 0 inside,
+      total-but n (λ f. getD (set xs i v) f 0) (λ f. getD xs f 0) i low (λ j k ne. omega (arith, getD-set-other xs i j v 0 ne)),
+      total-but n (λ f. getD xs f 0) (λ f. getD (set xs i v) f 0) i low (λ j k ne. omega (arith, getD-set-other xs i j v 0 ne)),
+    )
+
+pub sum-set : (xs : List ℕ) (i v : ℕ) → i < mostFlows → i < length xs → sumOf (set xs i v) + getD xs i 0 ≡ sumOf xs + v
+unfolding sumOf
+sum-set = total-set mostFlows
+
+pub sum-most : (xs : List ℕ) (b : ℕ) → ((f : ℕ) → f < mostFlows → getD xs f 0 ≤ b) → sumOf xs ≤ mostFlows * b
+unfolding sumOf
+sum-most xs b = total-most mostFlows (λ f. getD xs f 0) b
+
+pub sum-at : (xs : List ℕ) (f : ℕ) → f < mostFlows → getD xs f 0 ≤ sumOf xs
+unfolding sumOf
+sum-at xs = total-at mostFlows (λ f. getD xs f 0)
+
+pub sum-none : (xs : List ℕ) → ((f : ℕ) → f < mostFlows → getD xs f 0 ≡ 0) → sumOf xs ≡ 0
+sum-none xs h = omega (arith, sum-most xs 0 (λ f low. omega (arith, h f low)))

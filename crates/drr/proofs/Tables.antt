@@ -6,17 +6,18 @@ use mathlib.Core.List.{List, [], _∷_}
 use Prim.Native.Nat.{ℕ, zero, suc, _+_, _≤_, _<_}
 use native.Mathlib.Nat.{not-suc-le-zero}
 use native.Mathlib.Omega.{arith}
-use borrow.Author.Tests.{ltb-false}
+use borrow.Author.Tests.{ltb-false, eqb-true}
 use lib.Dec.{ltb, eqb}
 use lib.ListN.{length, getD, replicate, getD-replicate, List·getD-eq-default}
 use Rattle.drr.specs.declared.Table.{Table}
 use Rattle.drr.specs.declared.FlowRecord.{FlowRecord}
+use Rattle.drr.specs.Limits.{mostFlows, leastQuantum, mostQuantum, leastMaximum, mostMaximum}
 use Rattle.drr.specs.State.{Line, freshLine, noFlows}
-use Rattle.drr.specs.Sound.{withinb}
+use Rattle.drr.specs.Sound.{quantumb, maximumb}
 use Rattle.drr.specs.Facts.{Ranged, Sound}
 use Rattle.drr.specs.Answers.{refusedAt}
-use Rattle.drr.specs.Setup.{cells, tableFor, flowsAnswer, setupAnswer}
-use Rattle.drr.proofs.Bools.{below?, within-is, or-right}
+use Rattle.drr.specs.Setup.{cells, tableFor, flowsAnswer, setupAnswer, setupTable}
+use Rattle.drr.proofs.Bools.{below?, by-test, within-is, or-right}
 
 pub zero-at : (n f : ℕ) → getD {A = ℕ} (replicate n 0) f 0 ≡ 0
 zero-at zero f = refl
@@ -44,7 +45,11 @@ fresh-sound {T} r = record {
   flows = λ f low. rw (zero-at 16 f, empty-row f low) (record {
     used = λ l. let q = r .quantum-in f l in let m = r .maximum-in f l in
         record { quantum-least = q .0; quantum-most = q .1; maximum-least = m .0; maximum-most = m .1; count-most = omega arith };
-    credit = λ l. record { visited-below = λ p. absurd (false≢true p); empty-zero = λ _ _. refl; waiting-below = λ _ some. absurd (omega arith) };
+    credit = λ l. record {
+      visited-below = λ p. absurd (false≢true p);
+      empty-zero = λ _ _. refl;
+      waiting-below = λ _ some. absurd (omega arith);
+    };
     unused = λ l. let z = r .unused-zero f l in record { no-quantum = z .0; no-maximum = z .1; no-deficit = refl; no-count = refl };
     waiting = λ k x y. absurd (omega arith);
     rest = λ k x y. zero-at 32 k;
@@ -61,7 +66,10 @@ sound-ranged {T} {l} ok = record {
   maximum-in = λ f k. let u = ok .flows f (omega arith) .used k in (u .maximum-least, u .maximum-most);
   unused-zero = λ f k. ⊎-elim
       (λ low. let u = ok .flows f low .unused k in (u .no-quantum, u .no-maximum))
-      (λ past. (List·getD-eq-default (T .quanta) 0 (omega (arith, ok .shape .quanta-length)), List·getD-eq-default (T .maxima) 0 (omega (arith, ok .shape .maxima-length))))
+      (λ past. (
+        List·getD-eq-default (T .quanta) 0 (omega (arith, ok .shape .quanta-length)),
+        List·getD-eq-default (T .maxima) 0 (omega (arith, ok .shape .maxima-length)),
+      ))
       (below? f 16);
 }
 
@@ -79,7 +87,8 @@ no-flows-ranged = record {
 abbrev pub none : FlowRecord
 none = record { quantum = 0; maximum = 0 }
 
-pub cell-of : (p : FlowRecord → ℕ) (w i : ℕ) (xs : List FlowRecord) → i < w → i < length xs → getD (cells p w xs) i 0 ≡ p (getD xs i none)
+pub cell-of : (p : FlowRecord → ℕ) (w i : ℕ) (xs : List FlowRecord) → i < w → i < length xs →
+    getD (cells p w xs) i 0 ≡ p (getD xs i none)
 cell-of p w i [] a b = absurd (not-suc-le-zero b)
 cell-of p zero i (x ∷ xs) a b = absurd (not-suc-le-zero a)
 cell-of p (suc w) zero (x ∷ xs) a b = refl
@@ -99,15 +108,23 @@ cell-past p (suc k) (suc i) (x ∷ xs) h = cell-past p k i xs (omega arith)
 
 -- each flow is in range where none is refused
 pub record InRange (x : FlowRecord) : Type 0 where
-  pub quantum : (1 ≤ x .quantum) × (x .quantum ≤ 65535)
-  pub maximum : (1 ≤ x .maximum) × (x .maximum ≤ 9216)
+  pub quantum : (leastQuantum ≤ x .quantum) × (x .quantum ≤ mostQuantum)
+  pub maximum : (leastMaximum ≤ x .maximum) × (x .maximum ≤ mostMaximum)
 
-first-in : (f : ℕ) (x : FlowRecord) (xs : List FlowRecord) → flowsAnswer f (x ∷ xs) .refusal ≡ 0 → InRange x × (flowsAnswer (f + 1) xs .refusal ≡ 0)
-first-in f x xs e = go (withinb 1 65535 (x .quantum)) refl (withinb 1 9216 (x .maximum)) refl e
+first-in : (f : ℕ) (x : FlowRecord) (xs : List FlowRecord) → flowsAnswer f (x ∷ xs) .refusal ≡ 0 →
+    InRange x × (flowsAnswer (f + 1) xs .refusal ≡ 0)
+first-in f x xs e = go (quantumb (x .quantum)) refl (maximumb (x .maximum)) refl e
   where
-    go : (a : Bool) → withinb 1 65535 (x .quantum) ≡ a → (b : Bool) → withinb 1 9216 (x .maximum) ≡ b →
-        cond (not a) (refusedAt 6 f) (cond (not b) (refusedAt 7 f) (flowsAnswer (f + 1) xs)) .refusal ≡ 0 → InRange x × (flowsAnswer (f + 1) xs .refusal ≡ 0)
-    go true p true q h = (record { quantum = within-is 1 65535 (x .quantum) p; maximum = within-is 1 9216 (x .maximum) q }, h)
+    go : (a : Bool) → quantumb (x .quantum) ≡ a → (b : Bool) → maximumb (x .maximum) ≡ b →
+        cond (not a) (refusedAt 6 f) (cond (not b) (refusedAt 7 f) (flowsAnswer (f + 1) xs)) .refusal ≡ 0 →
+        InRange x × (flowsAnswer (f + 1) xs .refusal ≡ 0)
+    go true p true q h = (
+      record {
+        quantum = within-is leastQuantum mostQuantum (x .quantum) p;
+        maximum = within-is leastMaximum mostMaximum (x .maximum) q;
+      },
+      h,
+    )
     go true p false q h = absurd (omega arith)
     go false p b q h = absurd (omega arith)
 
@@ -118,12 +135,13 @@ flows-in f (x ∷ xs) e (suc i) l = flows-in (f + 1) xs (first-in f x xs e .1) i
 
 pub made-ranged : (xs : List FlowRecord) → setupAnswer xs .refusal ≡ 0 → Ranged (tableFor xs)
 unfolding setupAnswer
-made-ranged xs e = go (eqb (length xs) 0 || ltb 16 (length xs)) refl e
+made-ranged xs e = go (eqb (length xs) 0 || ltb mostFlows (length xs)) refl e
   where
-    go : (b : Bool) → (eqb (length xs) 0 || ltb 16 (length xs)) ≡ b → cond b (refusedAt 5 0) (flowsAnswer 0 xs) .refusal ≡ 0 → Ranged (tableFor xs)
+    go : (b : Bool) → (eqb (length xs) 0 || ltb mostFlows (length xs)) ≡ b →
+        cond b (refusedAt 5 0) (flowsAnswer 0 xs) .refusal ≡ 0 → Ranged (tableFor xs)
     go true p h = absurd (omega arith)
     go false p h =
-        let few : length xs ≤ 16 = ltb-false 16 (length xs) (or-right (eqb (length xs) 0) (ltb 16 (length xs)) p) in
+        let few = ltb-false mostFlows (length xs) (or-right (eqb (length xs) 0) (ltb mostFlows (length xs)) p) in
         record {
           quanta-length = cells-long (λ r. r .quantum) 16 xs;
           maxima-length = cells-long (λ r. r .maximum) 16 xs;
@@ -132,3 +150,9 @@ made-ranged xs e = go (eqb (length xs) 0 || ltb 16 (length xs)) refl e
           maximum-in = λ f l. rw (cell-of (λ r. r .maximum) 16 f xs (omega arith) l) (flows-in 0 xs h f l .maximum);
           unused-zero = λ f l. (cell-past (λ r. r .quantum) 16 f xs l, cell-past (λ r. r .maximum) 16 f xs l);
         }
+
+-- the table that setup gives, refused or not
+pub setup-ranged : (xs : List FlowRecord) → Ranged (setupTable xs)
+unfolding setupTable
+setup-ranged xs = by-test Ranged (eqb (setupAnswer xs .refusal) 0) (λ e. made-ranged xs (eqb-true (setupAnswer xs .refusal) 0 e))
+    (λ _. no-flows-ranged)

@@ -1,10 +1,13 @@
 -- What document 01 gives as the answer of a call: for each case of an enum its refusal number and its other numbers.
 use Prim.Native.Nat.{ℕ}
-use mathlib.Core.Bool.{cond}
+use mathlib.Core.Bool.{Bool, true, false, cond}
 use mathlib.Core.List.{List, [], _∷_}
+use lib.ListN.{getD}
 use Rattle.drr.specs.declared.State.{State}
 use Rattle.drr.specs.declared.Refusal.{Refusal}
-use Rattle.drr.specs.declared.Refusal.the-variants.{UnknownFlow, NoLength, OverMaximum, RowFull, FlowCount, QuantumRange, MaximumRange, NotSound, FileLength, Reserved, EventCount, TablePlace, TickOrder, ListShort}
+use Rattle.drr.specs.declared.Refusal.the-variants.{UnknownFlow, NoLength, OverMaximum, RowFull}
+use Rattle.drr.specs.declared.Refusal.the-variants.{FlowCount, QuantumRange, MaximumRange, NotSound}
+use Rattle.drr.specs.declared.Refusal.the-variants.{FileLength, Reserved, EventCount, TablePlace, TickOrder, ListShort}
 use Rattle.drr.specs.declared.PickAnswer.{PickAnswer}
 use Rattle.drr.specs.declared.PickAnswer.the-variants as picks
 use Rattle.drr.specs.declared.ArrivalAnswer.{ArrivalAnswer}
@@ -31,20 +34,30 @@ numberOf TablePlace = 12
 numberOf TickOrder = 13
 numberOf ListShort = 14
 
--- an answer: its refusal number, 0 where nothing is refused, and its other numbers in the document's order
+-- an answer: its refusal number, 0 where nothing is refused, whether it tells of a packet sent, and its other numbers in the
+-- document's order
 pub record Answer : Type 0 where
   pub refusal : ℕ
+  pub sends : Bool
   pub numbers : List ℕ
 
+-- an answer that tells of no packet sent
 abbrev pub answer : ℕ → List ℕ → Answer
-answer refusal numbers = record { refusal = refusal; numbers = numbers }
+answer refusal numbers = record { refusal = refusal; sends = false; numbers = numbers }
 
 -- "A pick answers either idle, or sent with flow, length, deficit after it and the number of visits opened in this pick."
 abbrev pub idle : Answer
 idle = answer 0 []
 
 abbrev pub sentAs : ℕ → ℕ → ℕ → ℕ → Answer
-sentAs flow length deficit visits = answer 0 (flow ∷ length ∷ deficit ∷ visits ∷ [])
+sentAs flow length deficit visits = record { refusal = 0; sends = true; numbers = flow ∷ length ∷ deficit ∷ visits ∷ [] }
+
+-- the flow and the length of a packet sent
+abbrev pub flowIn : Answer → ℕ
+flowIn a = getD (a .numbers) 0 0
+
+abbrev pub lengthIn : Answer → ℕ
+lengthIn a = getD (a .numbers) 1 0
 
 -- "Beside a refusal every other number of the answer, state and place apart, is 0."
 abbrev pub pickRefused : ℕ → Answer
@@ -93,6 +106,7 @@ pub record Reply : Type 0 where
 abbrev pub reply : Answer → State → Reply
 reply a s = record { answer = a; state = s }
 
--- a call on a state: refused by 8 where it is not sound, and handed back as it came; else the outcome's answer, and the state with its line
+-- a call on a state: refused by 8 where it is not sound, and handed back as it came; else the outcome's answer, and the state with
+-- its line
 unfoldable pub guarded : State → Answer → Outcome → Reply
 guarded s unsound o = cond (soundState s) (reply (o .answer) (stateFrom (s .table) (o .line))) (reply unsound s)

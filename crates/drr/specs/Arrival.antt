@@ -8,6 +8,8 @@ use lib.ListN.{set}
 use Rattle.drr.specs.declared.Table.{Table}
 use Rattle.drr.specs.declared.State.{State}
 use Rattle.drr.specs.declared.Spot.{Spot}
+use Rattle.drr.specs.declared.Common.{Common}
+use Rattle.drr.specs.Limits.{mostWaiting}
 use Rattle.drr.specs.State.{Line, tableOf, lineOf, maximumOf, waitingOf, rowOf, withRow, lineIn}
 use Rattle.drr.specs.Answers.{Answer, accepted, arrivalRefused, Outcome, outcome, Reply, guarded}
 
@@ -21,14 +23,15 @@ arrivalOf T l f length =
     cond (leb (T .n) f) (outcome (arrivalRefused 1) l)
     (cond (eqb length 0) (outcome (arrivalRefused 2) l)
     (cond (ltb (maximumOf T f) length) (outcome (arrivalRefused 3) l)
-    (cond (leb 32 (waitingOf l f)) (outcome (arrivalRefused 4) l)
+    (cond (leb mostWaiting (waitingOf l f)) (outcome (arrivalRefused 4) l)
     (outcome accepted (put l f length)))))
 
--- a booking into counts and rows answers `a` and leaves counts' and rows', as the arrival does whatever the quanta, the deficits and the visit, which it does not read
-abbrev pub Booked : ℕ → List ℕ → List ℕ → List (List ℕ) → ℕ → ℕ → Answer → List ℕ → List (List ℕ) → Type 0
-Booked n maxima counts rows f length a counts' rows' =
+-- a booking into counts and rows answers `a` and leaves counts' and rows', as the arrival does whatever the quanta, the deficits and
+-- the visit, which it does not read
+abbrev pub Booked : Common → List ℕ → List ℕ → List (List ℕ) → ℕ → ℕ → Answer → List ℕ → List (List ℕ) → Type 0
+Booked c maxima counts rows f length a counts' rows' =
     (quanta deficits : List ℕ) (spot : Spot) →
-    outcome a (lineOf counts' deficits rows' spot) ≡ arrivalOf (tableOf n quanta maxima) (lineOf counts deficits rows spot) f length
+    outcome a (lineOf counts' deficits rows' spot) ≡ arrivalOf (tableOf c quanta maxima) (lineOf counts deficits rows spot) f length
 
 -- the public arrival, of any state and any numbers
 abbrev pub arrivalReply : State → ℕ → ℕ → Reply

@@ -1,4 +1,5 @@
--- The pick as a function, which contracts name. On every sound line it is the one answer of the relation in Pick.antt (proofs/One.antt).
+-- The pick as a function, which contracts name. On every sound line it is the one answer of the relation in Pick.antt
+-- (proofs/One.antt).
 use mathlib.Core.Bool.{Bool, true, false, _&&_}
 use Prim.Native.Nat.{ℕ, zero, suc, _+_}
 use lib.Dec.{ltb, leb}
@@ -6,7 +7,8 @@ use Rattle.drr.specs.declared.Table.{Table}
 use Rattle.drr.specs.declared.State.{State}
 use Rattle.drr.specs.declared.Found.{Found}
 use Rattle.drr.specs.declared.Found.the-variants.{At, Nothing}
-use Rattle.drr.specs.State.{Line, deficitOf, waitingOf, oldest, due, lineIn}
+use Rattle.drr.specs.Limits.{mostMaxima}
+use Rattle.drr.specs.State.{Line, deficitOf, waitingOf, oldest, oldestCharge, lineIn}
 use Rattle.drr.specs.Answers.{idle, sentAs, pickRefused, Outcome, outcome, Reply, guarded}
 use Rattle.drr.specs.Pick.{next, openAt, closed, emptied, sent}
 
@@ -22,16 +24,17 @@ serve false v l f goto2 = goto2 (closed l)
 -- steps 2 and 3 once, with v visits opened before; `goto2` is what a return to step 2 gives
 abbrev pub turn : Table → ℕ → Line → Found → (Line → Outcome) → Outcome
 turn T v l Nothing goto2 = outcome idle l
-turn T v l (At f) goto2 = serve (leb (due l f) (deficitOf (openAt T l f) f)) (v + 1) (openAt T l f) f goto2
+turn T v l (At f) goto2 = serve (leb (oldestCharge l f) (deficitOf (openAt T l f) f)) (v + 1) (openAt T l f) f goto2
 
--- steps 2 and 3, with v visits opened before, and at most k more
+-- steps 2 and 3, with v visits opened before, and at most k more. On a sound line this count never matters: `look-unfolds`, in
+-- proofs/One.antt, is the equation without it.
 unfoldable pub lookFor : Table → ℕ → ℕ → Line → Outcome
 lookFor T zero v l = outcome idle l
 lookFor T (suc k) v l = turn T v l (next T l) (lookFor T k (v + 1))
 
 -- more visits than any pick opens: sixteen flows, of each less than 9,216
 abbrev pub enough : ℕ
-enough = 147457
+enough = mostMaxima + 1
 
 abbrev pub look : Table → ℕ → Line → Outcome
 look T = lookFor T enough
@@ -42,7 +45,7 @@ carryOn T true l = sending l (l .place) 0
 carryOn T false l = look T 0 (closed (emptied l))
 
 abbrev pub readyb : Line → ℕ → Bool
-readyb l f = ltb 0 (waitingOf l f) && leb (due l f) (deficitOf l f)
+readyb l f = ltb 0 (waitingOf l f) && leb (oldestCharge l f) (deficitOf l f)
 
 abbrev pub pickAt : Table → Bool → Line → Outcome
 pickAt T true l = carryOn T (readyb l (l .place)) l

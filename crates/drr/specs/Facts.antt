@@ -1,4 +1,5 @@
--- A sound state as facts, which theorems use. A line that has the lengths that the code's types give is `Sound` exactly when `soundb` is true of it (proofs/Facts.antt).
+-- A sound state as facts, which theorems use. A line that has the lengths that the code's types give is `Sound` exactly when `soundb`
+-- is true of it (proofs/Facts.antt).
 use Prim.Native.Nat.{ℕ, _≤_, _<_}
 use mathlib.Core.Path.{_≡_}
 use mathlib.Core.List.{List}
@@ -7,22 +8,24 @@ use mathlib.Core.Logic.{_⊎_}
 use lib.ListN.{length, getD}
 use Rattle.drr.specs.declared.Table.{Table}
 use Rattle.drr.specs.declared.State.{State}
-use Rattle.drr.specs.State.{Line, quantumOf, maximumOf, deficitOf, waitingOf, rowOf, charge, lineIn}
+use Rattle.drr.specs.Limits.{mostFlows, leastQuantum, mostQuantum, leastMaximum, mostMaximum, mostWaiting}
+use Rattle.drr.specs.State.{Line, quantumOf, maximumOf, deficitOf, waitingOf, rowOf, lengthsIn, charge, lineIn}
 use Rattle.drr.specs.Sound.{visited}
 
--- "a flow without an open visit has deficit 0 if empty, otherwise a deficit below its oldest length; the flow with the open visit has a deficit below its quantum"
-pub record Credit (visited : Bool) (deficit quantum count due : ℕ) : Type 0 where
+-- "a flow without an open visit has deficit 0 if empty, otherwise a deficit below its oldest length; the flow with the open visit
+-- has a deficit below its quantum"
+pub record Credit (visited : Bool) (deficit quantum count oldestCharge : ℕ) : Type 0 where
   pub visited-below : visited ≡ true → deficit < quantum
   pub empty-zero : visited ≡ false → count ≡ 0 → deficit ≡ 0
-  pub waiting-below : visited ≡ false → 0 < count → deficit < due
+  pub waiting-below : visited ≡ false → 0 < count → deficit < oldestCharge
 
 -- "quanta, maxima, waiting counts .. are in range"
 pub record InUse (quantum maximum count : ℕ) : Type 0 where
-  pub quantum-least : 1 ≤ quantum
-  pub quantum-most : quantum ≤ 65535
-  pub maximum-least : 1 ≤ maximum
-  pub maximum-most : maximum ≤ 9216
-  pub count-most : count ≤ 32
+  pub quantum-least : leastQuantum ≤ quantum
+  pub quantum-most : quantum ≤ mostQuantum
+  pub maximum-least : leastMaximum ≤ maximum
+  pub maximum-most : maximum ≤ mostMaximum
+  pub count-most : count ≤ mostWaiting
 
 -- "unused parts are zero"
 pub record Unused (quantum maximum deficit count : ℕ) : Type 0 where
@@ -36,8 +39,8 @@ pub record FlowFacts (T : Table) (f : ℕ) (visited : Bool) (deficit count : ℕ
   pub used : f < T .n → InUse (quantumOf T f) (maximumOf T f) count
   pub credit : f < T .n → Credit visited deficit (quantumOf T f) count (charge (getD lengths 0 0))
   pub unused : T .n ≤ f → Unused (quantumOf T f) (maximumOf T f) deficit count
-  pub waiting : (k : ℕ) → k < 32 → k < count → (1 ≤ getD lengths k 0) × (getD lengths k 0 ≤ maximumOf T f)
-  pub rest : (k : ℕ) → k < 32 → count ≤ k → getD lengths k 0 ≡ 0
+  pub waiting : (k : ℕ) → k < mostWaiting → k < count → (1 ≤ getD lengths k 0) × (getD lengths k 0 ≤ maximumOf T f)
+  pub rest : (k : ℕ) → k < mostWaiting → count ≤ k → getD lengths k 0 ≡ 0
 
 abbrev pub Flow : Table → Line → ℕ → Type 0
 Flow T l f = FlowFacts T f (visited l f) (deficitOf l f) (waitingOf l f) (rowOf l f)
@@ -46,9 +49,9 @@ Flow T l f = FlowFacts T f (visited l f) (deficitOf l f) (waitingOf l f) (rowOf 
 pub record Ranged (T : Table) : Type 0 where
   pub quanta-length : length (T .quanta) ≡ 16
   pub maxima-length : length (T .maxima) ≡ 16
-  pub flows-few : T .n ≤ 16
-  pub quantum-in : (f : ℕ) → f < T .n → (1 ≤ quantumOf T f) × (quantumOf T f ≤ 65535)
-  pub maximum-in : (f : ℕ) → f < T .n → (1 ≤ maximumOf T f) × (maximumOf T f ≤ 9216)
+  pub flows-few : T .n ≤ mostFlows
+  pub quantum-in : (f : ℕ) → f < T .n → (leastQuantum ≤ quantumOf T f) × (quantumOf T f ≤ mostQuantum)
+  pub maximum-in : (f : ℕ) → f < T .n → (leastMaximum ≤ maximumOf T f) × (maximumOf T f ≤ mostMaximum)
   pub unused-zero : (f : ℕ) → T .n ≤ f → (quantumOf T f ≡ 0) × (maximumOf T f ≡ 0)
 
 -- the lengths of the arrays, as the code's types give them to every state
@@ -62,12 +65,25 @@ pub record Shaped (T : Table) (l : Line) : Type 0 where
 
 pub record Sound (T : Table) (l : Line) : Type 0 where
   pub shape : Shaped T l
-  pub flows-few : T .n ≤ 16
+  pub flows-few : T .n ≤ mostFlows
   pub placed : (l .place < T .n) ⊎ ((T .n ≡ 0) × (l .place ≡ 0) × (l .opened ≡ false))
-  pub flows : (f : ℕ) → f < 16 → Flow T l f
+  pub flows : (f : ℕ) → f < mostFlows → Flow T l f
 
 abbrev pub SoundState : State → Type 0
 SoundState s = Sound (s .table) (lineIn (s .line))
 
 abbrev pub ShapedState : State → Type 0
 ShapedState s = Shaped (s .table) (lineIn (s .line))
+
+-- ---- "so one meaning has one state": what two states say, unused cells and unused flows apart
+pub record SameTable (T U : Table) : Type 0 where
+  pub flows : T .n ≡ U .n
+  pub quanta : (f : ℕ) → f < T .n → quantumOf T f ≡ quantumOf U f
+  pub maxima : (f : ℕ) → f < T .n → maximumOf T f ≡ maximumOf U f
+
+pub record SameMeaning (s t : State) : Type 0 where
+  pub tables : SameTable (s .table) (t .table)
+  pub deficits : (f : ℕ) → f < s .table .n → deficitOf (lineIn (s .line)) f ≡ deficitOf (lineIn (t .line)) f
+  pub waiting : (f : ℕ) → f < s .table .n → lengthsIn (lineIn (s .line)) f ≡ lengthsIn (lineIn (t .line)) f
+  pub places : s .line .place ≡ t .line .place
+  pub visits : s .line .opened ≡ t .line .opened

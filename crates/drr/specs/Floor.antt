@@ -4,11 +4,12 @@ use mathlib.Core.List.{List, [], _∷_}
 use Prim.Native.Nat.{ℕ, _+_, _≤_, _<_}
 use lib.Dec.{eqb}
 use Rattle.drr.specs.declared.State.{State}
-use Rattle.drr.specs.State.{waitingOf, charge, lineIn}
+use Rattle.drr.specs.declared.Table.{Table}
+use Rattle.drr.specs.State.{Line, waitingOf, charge, lineIn}
 use Rattle.drr.specs.Facts.{SoundState}
-use Rattle.drr.specs.Answers.{Reply}
-use Rattle.drr.specs.Arrival.{arrivalReply}
-use Rattle.drr.specs.Computed.{pickReply}
+use Rattle.drr.specs.Answers.{Answer, flowIn, lengthIn, Outcome, Reply}
+use Rattle.drr.specs.Arrival.{arrivalOf, arrivalReply}
+use Rattle.drr.specs.Computed.{pickOf, pickReply}
 use Rattle.drr.specs.Figures.{owed}
 
 -- "any calls of arrival and pick": an arrival with any flow and any length, or a pick
@@ -26,37 +27,40 @@ abbrev pub afterCalls : State → List Call → State
 afterCalls s [] = s
 afterCalls s (c ∷ cs) = afterCalls (replyTo s c .state) cs
 
--- the bytes that an answer says were sent to flow i: none but by a pick that sent, which answers flow, length, deficit and visits
-abbrev pub sentIn : List ℕ → ℕ → ℕ
-sentIn [] i = 0
-sentIn (flow ∷ []) i = 0
-sentIn (flow ∷ length ∷ rest) i = cond (eqb flow i) (charge length) 0
+-- the same calls on a sound line
+abbrev pub callOf : Table → Line → Call → Outcome
+callOf T l (arrives flow length) = arrivalOf T l flow length
+callOf T l picks = pickOf T l
+
+abbrev pub lineAfter : Table → Line → List Call → Line
+lineAfter T l [] = l
+lineAfter T l (c ∷ cs) = lineAfter T (callOf T l c .line) cs
+
+-- the bytes that an answer says were sent to flow i; a refused pick is no sending, and its zeros count for nothing
+abbrev pub sentIn : Answer → ℕ → ℕ
+sentIn a i = cond (a .sends && eqb (flowIn a) i) (charge (lengthIn a)) 0
 
 -- .. and their lengths
-abbrev pub givenIn : List ℕ → ℕ → List ℕ
-givenIn [] i = []
-givenIn (flow ∷ []) i = []
-givenIn (flow ∷ length ∷ rest) i = cond (eqb flow i) (length ∷ []) []
+abbrev pub givenIn : Answer → ℕ → List ℕ
+givenIn a i = cond (a .sends && eqb (flowIn a) i) (lengthIn a ∷ []) []
 
 -- the length that an arrival's answer says was accepted for flow i
 abbrev pub addedTo : ℕ → ℕ → ℕ → ℕ → List ℕ
 addedTo refusal flow length i = cond (eqb refusal 0 && eqb flow i) (length ∷ []) []
 
 -- the bytes sent in all
-abbrev pub bytesIn : List ℕ → ℕ
-bytesIn [] = 0
-bytesIn (flow ∷ []) = 0
-bytesIn (flow ∷ length ∷ rest) = charge length
+abbrev pub bytesIn : Answer → ℕ
+bytesIn a = cond (a .sends) (charge (lengthIn a)) 0
 
 -- "if the picks sent S bytes in all"
 abbrev pub bytesSent : State → List Call → ℕ
 bytesSent s [] = 0
-bytesSent s (c ∷ cs) = bytesIn (replyTo s c .answer .numbers) + bytesSent (replyTo s c .state) cs
+bytesSent s (c ∷ cs) = bytesIn (replyTo s c .answer) + bytesSent (replyTo s c .state) cs
 
 -- "that flow was sent"
 abbrev pub flowSent : State → List Call → ℕ → ℕ
 flowSent s [] i = 0
-flowSent s (c ∷ cs) i = sentIn (replyTo s c .answer .numbers) i + flowSent (replyTo s c .state) cs i
+flowSent s (c ∷ cs) i = sentIn (replyTo s c .answer) i + flowSent (replyTo s c .state) cs i
 
 abbrev pub Waits : State → ℕ → Type 0
 Waits s i = 0 < waitingOf (lineIn (s .line)) i
@@ -67,7 +71,9 @@ WaitsAtPicks s [] i = Unit {0}
 WaitsAtPicks s (arrives flow length ∷ cs) i = WaitsAtPicks (replyTo s (arrives flow length) .state) cs i
 WaitsAtPicks s (picks ∷ cs) i = Waits s i × WaitsAtPicks (replyTo s picks .state) cs i
 
--- "From any sound state, any calls of arrival and pick, refused ones among them: in any stretch of these calls where a flow has a packet waiting at the start of every pick, if the picks sent S bytes in all, that flow was sent at least owed(S). For each flow, each stretch, each S, with no upper limit on S."
+-- "From any sound state, any calls of arrival and pick, refused ones among them: in any stretch of these calls where a flow has a
+-- packet waiting at the start of every pick, if the picks sent S bytes in all, that flow was sent at least owed(S). For each flow,
+-- each stretch, each S, with no upper limit on S."
 abbrev pub Floor : Type 0
 Floor =
     (s : State) → SoundState s → (before stretch : List Call) (i : ℕ) → i < s .table .n →

@@ -1,4 +1,6 @@
--- Document 01 as definitions, in its order. Facts.antt has soundness once more, as facts.
+-- Document 01 as definitions, in its order. Facts.antt has soundness once more, as facts. Paper.antt has
+-- document 000's listing.
+pub mod Limits
 pub mod State
 pub mod Sound
 pub mod Facts
@@ -9,3 +11,4 @@ pub mod Computed
 pub mod Setup
 pub mod Figures
 pub mod Floor
+pub mod Paper

@@ -8,7 +8,8 @@ use lib.ListN.{getD}
 use Rattle.drr.specs.declared.Table.{Table}
 use Rattle.drr.specs.declared.Found.{Found}
 use Rattle.drr.specs.declared.Found.the-variants.{At, Nothing}
-use Rattle.drr.specs.State.{Line, quantumOf, deficitOf, waitingOf, rowOf, oldest, due, withDeficit, withRow, withVisit, shiftedOf}
+use Rattle.drr.specs.State.{Line, quantumOf, deficitOf, waitingOf, rowOf, oldest, oldestCharge, withDeficit, withRow, withVisit}
+use Rattle.drr.specs.State.{shiftedOf}
 use Rattle.drr.specs.Answers.{Answer, idle, sentAs}
 
 -- the flow after f, round a table of n
@@ -39,22 +40,22 @@ emptied l = withDeficit l (l .place) (cond (ltb 0 (waitingOf l (l .place))) (def
 
 -- "Sending takes the oldest length off the row and subtracts it from the deficit. The visit stays open."
 abbrev pub sent : Line → ℕ → Line
-sent l f = withRow (withDeficit l f (deficitOf l f - due l f)) f (waitingOf l f - 1) (shiftedOf (rowOf l f))
+sent l f = withRow (withDeficit l f (deficitOf l f - oldestCharge l f)) f (waitingOf l f - 1) (shiftedOf (rowOf l f))
 
 -- steps 2 and 3, where v visits have been opened so far in this pick
 pub data Looks (T : Table) : ℕ → Line → Answer → Line → Type 0 where
   -- "If there is none, the answer is idle and the place stays."
   idles : {v : ℕ} {l : Line} → next T l ≡ Nothing → Looks T v l idle l
   -- "the count of visits grows by one. If its oldest length is at most the deficit, send it."
-  sends : {v : ℕ} {l : Line} {f : ℕ} → next T l ≡ At f → due l f ≤ deficitOf (openAt T l f) f →
+  sends : {v : ℕ} {l : Line} {f : ℕ} → next T l ≡ At f → oldestCharge l f ≤ deficitOf (openAt T l f) f →
       Looks T v l (sentAs f (oldest l f) (deficitOf (sent (openAt T l f) f) f) (v + 1)) (sent (openAt T l f) f)
   -- "Otherwise close the visit, keep the deficit, and go to 2."
-  passes : {v : ℕ} {l : Line} {f : ℕ} {a : Answer} {t : Line} → next T l ≡ At f → deficitOf (openAt T l f) f < due l f →
+  passes : {v : ℕ} {l : Line} {f : ℕ} {a : Answer} {t : Line} → next T l ≡ At f → deficitOf (openAt T l f) f < oldestCharge l f →
       Looks T (v + 1) (closed (openAt T l f)) a t → Looks T v l a t
 
 -- "where the flow has a packet waiting and its oldest length is at most the deficit"
 abbrev pub Ready : Line → ℕ → Type 0
-Ready l f = (0 < waitingOf l f) × (due l f ≤ deficitOf l f)
+Ready l f = (0 < waitingOf l f) × (oldestCharge l f ≤ deficitOf l f)
 
 -- the pick
 pub data Picks (T : Table) : Line → Answer → Line → Type 0 where

@@ -5,6 +5,7 @@ use lib.Dec.{ltb, leb, eqb}
 use lib.ListN.{getD}
 use Rattle.drr.specs.declared.Table.{Table}
 use Rattle.drr.specs.declared.State.{State}
+use Rattle.drr.specs.Limits.{mostFlows, leastQuantum, mostQuantum, leastMaximum, mostMaximum, mostWaiting}
 use Rattle.drr.specs.State.{Line, quantumOf, maximumOf, deficitOf, waitingOf, rowOf, oldest, charge, lineIn}
 
 -- the test p passes at each number below k
@@ -18,17 +19,24 @@ withinb least most x = leb least x && leb x most
 
 -- "n is 0 to 16; place is below n, or 0 and closed if n is 0"
 abbrev pub headb : ℕ → ℕ → Bool → Bool
-headb n place opened = leb n 16 && (ltb place n || (eqb n 0 && eqb place 0 && not opened))
+headb n place opened = leb n mostFlows && (ltb place n || (eqb n 0 && eqb place 0 && not opened))
 
 -- "quanta, maxima, waiting counts .. are in range"
+abbrev pub quantumb : ℕ → Bool
+quantumb = withinb leastQuantum mostQuantum
+
+abbrev pub maximumb : ℕ → Bool
+maximumb = withinb leastMaximum mostMaximum
+
 abbrev pub rangeb : ℕ → ℕ → ℕ → Bool
-rangeb quantum maximum count = withinb 1 65535 quantum && withinb 1 9216 maximum && leb count 32
+rangeb quantum maximum count = quantumb quantum && maximumb maximum && leb count mostWaiting
 
 -- "each waiting length is 1 to its flow's maximum"; "unused parts are zero"
 abbrev pub cellb : ℕ → ℕ → ℕ → ℕ → Bool
 cellb k count maximum length = (ltb k count && withinb 1 maximum length) || (not (ltb k count) && eqb length 0)
 
--- "a flow without an open visit has deficit 0 if empty, otherwise a deficit below its oldest length; the flow with the open visit has a deficit below its quantum"
+-- "a flow without an open visit has deficit 0 if empty, otherwise a deficit below its oldest length; the flow with the open visit
+-- has a deficit below its quantum"
 abbrev pub creditb : Bool → ℕ → ℕ → ℕ → ℕ → Bool
 creditb visited deficit quantum count oldest =
     (visited && ltb deficit quantum)
@@ -55,10 +63,10 @@ cellsb T l f k = cellb k (waitingOf l f) (maximumOf T f) (getD (rowOf l f) k 0)
 unfoldable pub flowb : Table → Line → ℕ → Bool
 flowb T l f =
     numbersb (ltb f (T .n)) (visited l f) (quantumOf T f) (maximumOf T f) (deficitOf l f) (waitingOf l f) (oldest l f)
-    && all 32 (cellsb T l f)
+    && all mostWaiting (cellsb T l f)
 
 unfoldable pub soundb : Table → Line → Bool
-soundb T l = headb (T .n) (l .place) (l .opened) && all 16 (flowb T l)
+soundb T l = headb (T .n) (l .place) (l .opened) && all mostFlows (flowb T l)
 
 abbrev pub soundState : State → Bool
 soundState s = soundb (s .table) (lineIn (s .line))

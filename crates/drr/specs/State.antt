@@ -2,24 +2,36 @@
 use mathlib.Core.Bool.{Bool, false}
 use mathlib.Core.List.{List, [], _∷_, _++_, map}
 use Prim.Native.Nat.{ℕ, _+_, _-_}
-use lib.ListN.{getD, set, drop, replicate}
+use lib.ListN.{getD, set, take, drop, replicate}
+use Rattle.drr.specs.declared.Common.{Common}
 use Rattle.drr.specs.declared.Table.{Table}
 use Rattle.drr.specs.declared.Row.{Row}
 use Rattle.drr.specs.declared.Line.{Line as StoredLine}
 use Rattle.drr.specs.declared.State.{State}
 use Rattle.drr.specs.declared.Spot.{Spot}
 
--- "The state holds n, quanta, maxima": the table, which setup fixes
-abbrev pub tableOf : ℕ → List ℕ → List ℕ → Table
-tableOf n quanta maxima = record { n = n; quanta = quanta; maxima = maxima }
+-- "The state holds n, quanta, maxima": the table, which setup fixes. Its numbers that are no flow's own go in one record.
+abbrev pub common : ℕ → Common
+common n = record { n = n }
 
--- "one deficit and one waiting count per flow, the place (flow visited last), whether its visit is open, and the waiting lengths as sixteen rows of thirty-two, oldest first": the line, which calls move
+abbrev pub commonIn : Table → Common
+commonIn T = common (T .n)
+
+abbrev pub tableOf : Common → List ℕ → List ℕ → Table
+tableOf c quanta maxima = record { n = c .n; quanta = quanta; maxima = maxima }
+
+-- "one deficit and one waiting count per flow, the place (flow visited last), whether its visit is open, and the waiting lengths as
+-- sixteen rows of thirty-two, oldest first": the line, which calls move
 pub record Line : Type 0 where
   pub deficits : List ℕ
   pub counts : List ℕ
   pub rows : List (List ℕ)
   pub place : ℕ
   pub opened : Bool
+
+-- the place, and whether its visit is open
+abbrev pub spotAt : ℕ → Bool → Spot
+spotAt place opened = record { place = place; opened = opened }
 
 -- the line that stands in arrays
 abbrev pub lineOf : List ℕ → List ℕ → List (List ℕ) → Spot → Line
@@ -46,13 +58,17 @@ rowOf l f = getD (l .rows) f []
 abbrev pub oldest : Line → ℕ → ℕ
 oldest l f = getD (rowOf l f) 0 0
 
+-- the lengths that wait in flow f, oldest first
+abbrev pub lengthsIn : Line → ℕ → List ℕ
+lengthsIn l f = take (waitingOf l f) (rowOf l f)
+
 -- "A packet's charge is its length in bytes as the arrival gives it."
 abbrev pub charge : ℕ → ℕ
 charge length = length
 
 -- what flow f's oldest packet is charged
-abbrev pub due : Line → ℕ → ℕ
-due l f = charge (oldest l f)
+abbrev pub oldestCharge : Line → ℕ → ℕ
+oldestCharge l f = charge (oldest l f)
 
 -- ---- writing: every change of a line is made of these three
 abbrev pub withDeficit : Line → ℕ → ℕ → Line
@@ -61,7 +77,13 @@ withDeficit l f d =
 
 abbrev pub withRow : Line → ℕ → ℕ → List ℕ → Line
 withRow l f count lengths =
-    record { deficits = l .deficits; counts = set (l .counts) f count; rows = set (l .rows) f lengths; place = l .place; opened = l .opened }
+    record {
+      deficits = l .deficits;
+      counts = set (l .counts) f count;
+      rows = set (l .rows) f lengths;
+      place = l .place;
+      opened = l .opened;
+    }
 
 abbrev pub withVisit : Line → ℕ → Bool → Line
 withVisit l f opened =
@@ -77,9 +99,10 @@ freshLine n =
     record { deficits = replicate 16 0; counts = replicate 16 0; rows = replicate 16 (replicate 32 0); place = n - 1; opened = false }
 
 abbrev pub noFlows : Table
-noFlows = tableOf 0 (replicate 16 0) (replicate 16 0)
+noFlows = tableOf (common 0) (replicate 16 0) (replicate 16 0)
 
--- ---- the State of the code: its rows as lists, and back
+-- ---- the State of the code: its rows as lists, and back. The public State has sixteen row structs, the engine an array of arrays;
+-- both are a list of lists here.
 abbrev pub lengthsOf : Row → List ℕ
 lengthsOf r = r .lengths
 

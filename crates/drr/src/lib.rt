@@ -2,14 +2,49 @@
 // proofs/; the crates above compute with them.
 ghost use mathlib.Core.Path.{_≡_};
 ghost use Rattle.drr.specs.Answers.{numberOf};
+ghost use Rattle.drr.specs.State.{commonIn};
+
+// Document 01's table of least and most (specs/Limits.antt).
+pub const MOST_FLOWS: usize = 16;
+
+pub const LEAST_QUANTUM: u32 = 1;
+
+pub const MOST_QUANTUM: u32 = 65535;
+
+pub const LEAST_MAXIMUM: u32 = 1;
+
+pub const MOST_MAXIMUM: u32 = 9216;
+
+pub const MOST_WAITING: u8 = 32;
+
+pub const MOST_EVENTS: usize = 1024;
 
 // A flow as setup is given it.
+#[repr(C)]
 pub struct FlowRecord {
     pub quantum: u32,
     pub maximum: u32,
 }
 
+// A list of flow records as it is carried: the first `count` of seventeen, one more than a table may
+// have, so that a list too long is seen to be.
+#[repr(C)]
+pub struct FlowList {
+    pub records: [FlowRecord; 17],
+    pub count: usize,
+}
+
+// What setup is told beside the list: nothing in document 01. A number of the whole table that a request
+// brings is a field here, and no signature and no proof by hand changes for it.
+pub struct Terms {}
+
+// The numbers of a table that are no flow's own, as the inner functions take them.
+pub struct Common {
+    pub n: usize,
+}
+
 // What setup fixes: the number of flows, and each flow's quantum and maximum.
+#[repr(C)]
 pub struct Table {
     pub n: usize,
     pub quanta: [u32; 16],
@@ -17,11 +52,13 @@ pub struct Table {
 }
 
 // The waiting lengths of one flow, oldest first.
+#[repr(C)]
 pub struct Row {
     pub lengths: [u16; 32],
 }
 
 // What arrivals and picks move.
+#[repr(C)]
 pub struct Line {
     pub deficits: [u32; 16],
     pub counts: [u8; 16],
@@ -30,6 +67,7 @@ pub struct Line {
     pub rows: [Row; 16],
 }
 
+#[repr(C)]
 pub struct State {
     pub table: Table,
     pub line: Line,
@@ -83,7 +121,12 @@ pub enum Verdict {
     Refused(Refusal, usize),
 }
 
-// Each answer beside the state, or the line, after the call.
+// Each answer beside the table, the state or the line after the call.
+pub struct Tabled {
+    pub answer: Verdict,
+    pub table: Table,
+}
+
 pub struct Made {
     pub answer: Verdict,
     pub state: State,
@@ -107,6 +150,12 @@ pub struct PickedLine {
 pub struct ArrivedLine {
     pub answer: ArrivalAnswer,
     pub line: Line,
+}
+
+pub fn common_of(table: Table) -> Common
+    ensures { λ r. ⌜ r ≡ commonIn table ⌝ }
+{
+    Common { n: table.n }
 }
 
 pub fn refusal_number(r: Refusal) -> u32

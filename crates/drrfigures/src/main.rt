@@ -1,10 +1,7 @@
 // Reads a run file from standard input and prints a line for each flow of its table: flow, quantum,
 // maximum, C, wait, and owed of each number of bytes that is given as an argument, of 1,000,000 if none
-// is. For a file that is refused it prints the line of its refusal.
-use drr::State;
-use drr::Verdict;
+// is. For a file that is refused it prints the line of its refusal (answers::figures_text).
 use text::Word;
-ghost use Prim.Native.Nat.{_≤_};
 ghost use Rattle.io.specs.Counts.{Counts};
 
 // The numbers of bytes that are asked for, the first `count` of these; none where an argument is wrong.
@@ -28,7 +25,7 @@ fn complain_of(i: usize) {
 
 // The arguments, or 1,000,000 where there is none.
 fn sizes_given() -> Asked
-    ensures { λ r. ⌜ r .count ≤ 16 ⌝ }
+    ensures { λ r. ⌜ Counts (r .count) (r .sizes) ⌝ }
 {
     let mut sizes = [1000000u32; 16];
     let words = os::arg_count();
@@ -64,52 +61,6 @@ fn sizes_given() -> Asked
     }
 }
 
-// The flow's line at the start of the buffer, and how many bytes it has.
-fn text_of(s: State, flow: usize, sizes: &[u32], buf: &mut [u8]) -> usize
-    ensures { λ r. ⌜ Counts r (now (buf .exit)) ⌝ }
-{
-    let mut list = [0u64; 21];
-    let n = figures::row(s, flow, sizes, &mut list);
-    text::row_text(&list[..n], buf)
-}
-
-fn print_flow(s: State, flow: usize, sizes: [u32; 16], count: usize)
-    requires { ⌜ count ≤ 16 ⌝ }
-{
-    // 21 bytes for each of 21 numbers: room for any line
-    let mut text = [0u8; 441];
-    let size = text_of(s, flow, &sizes[..count], &mut text);
-    io::write_all(1, &text[..size]);
-}
-
-fn print_flows(s: State, sizes: [u32; 16], count: usize)
-    requires { ⌜ count ≤ 16 ⌝ }
-{
-    let table = s.table;
-    let n = table.n;
-    let mut f: usize = 0;
-    while f < n {
-        print_flow(s, f, sizes, count);
-        f += 1;
-    }
-}
-
-fn refusal_of(number: u64, place: u64, buf: &mut [u8]) -> usize
-    ensures { λ r. ⌜ Counts r (now (buf .exit)) ⌝ }
-{
-    text::refusal_text(number, place, buf)
-}
-
-fn print_refusal(number: u64, place: u64) {
-    let mut text = [0u8; 44];
-    let size = refusal_of(number, place, &mut text);
-    io::write_all(1, &text[..size]);
-}
-
-fn wide(x: u32) -> u64 {
-    x as u64
-}
-
 fn main() {
     let asked = sizes_given();
     if asked.count == 0 {
@@ -118,12 +69,9 @@ fn main() {
     // one byte more than a run file may have, so that a file too long is seen to be
     let mut file = [0u8; 12289];
     let n = io::read_full(0, &mut file);
-    let made = runfile::reader::read_flows(&file[..n]);
-    let answer = made.answer;
-    if let Verdict::Refused(why, place) = answer {
-        print_refusal(wide(drr::refusal_number(why)), place as u64);
-        return;
-    }
     let sizes = asked.sizes;
-    print_flows(made.state, sizes, asked.count);
+    let count = asked.count;
+    let mut text = [0u8; 7056];
+    let size = answers::figures_text(&file[..n], &sizes[..count], &mut text);
+    io::write_all(1, &text[..size]);
 }

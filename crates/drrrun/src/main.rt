@@ -1,35 +1,10 @@
-// Reads a run file from standard input, runs it, and prints its listing, or the line of its refusal.
-use drr::Verdict;
-ghost use Rattle.io.specs.Counts.{Counts};
-
-fn wide(x: u32) -> u64 {
-    x as u64
-}
-
-fn number(x: usize) -> u64 {
-    x as u64
-}
-
-// The text of the answer at the start of the buffer, and how many bytes it has.
-fn text_of(answer: Verdict, list: &[u64], buf: &mut [u8]) -> usize
-    ensures { λ r. ⌜ Counts r (now (buf .exit)) ⌝ }
-{
-    if let Verdict::Refused(why, place) = answer {
-        let refusal = wide(drr::refusal_number(why));
-        return text::refusal_text(refusal, number(place), buf);
-    }
-    text::listing_text(list, buf)
-}
-
+// Reads a run file from standard input, and prints the text of its run: the listing, or the line of its
+// refusal (answers::run_text).
 fn main() {
     // one byte more than a run file may have, so that a file too long is seen to be
     let mut file = [0u8; 12289];
     let n = io::read_full(0, &mut file);
-    // room for the lines of 1,024 events and the last: no file is refused for want of room
-    let mut list = [0u64; 6150];
-    let answer = runfile::run(&file[..n], &mut list);
-    // 18 bytes for each number: room for any listing
     let mut text = [0u8; 110700];
-    let size = text_of(answer, &list, &mut text);
+    let size = answers::run_text(&file[..n], &mut text);
     io::write_all(1, &text[..size]);
 }

@@ -11,20 +11,22 @@ use lib.Seq.{set-getD}
 use Rattle.drr.specs.declared.Table.{Table}
 use Rattle.drr.specs.declared.Found.{Found}
 use Rattle.drr.specs.declared.Found.the-variants.{At, Nothing}
-use Rattle.drr.specs.State.{Line, quantumOf, deficitOf, waitingOf, due, withVisit}
+use Rattle.drr.specs.Limits.{mostFlows, mostMaxima}
+use Rattle.drr.specs.State.{Line, commonIn, quantumOf, deficitOf, waitingOf, oldestCharge, withVisit}
 use Rattle.drr.specs.Facts.{Sound}
 use Rattle.drr.specs.Answers.{idle, outcome}
 use Rattle.drr.specs.Pick.{next, openAt, closed, emptied, Ready}
 use Rattle.drr.specs.Computed.{sending, serve, turn, look, carryOn, readyb, pickAt, pickOf}
 use Rattle.engine.specs.Needs.{Bookable, Sendable}
 use Rattle.drr.proofs.Steps.{low, found-in, grown, visit-passes, place-in, on-ends}
-use Rattle.drr.proofs.Visits.{total, most, deficit-most, total-low, grows}
+use Rattle.drr.proofs.Sums.{sumOf}
+use Rattle.drr.proofs.Visits.{deficit-most, sum-low, grows}
 use Rattle.drr.proofs.One.{look-unfolds}
 
 -- the loop of visits, from the line s to the line t with v visits opened
 pub record Along (T : Table) (s t : Line) (v : ℕ) : Type 0 where
   pub sound : Sound T t
-  pub count : v ≤ total (t .deficits)
+  pub count : v ≤ sumOf (t .deficits)
   pub same : look T 0 s ≡ look T v t
 
 pub along-first : {T : Table} {s : Line} → Sound T s → Along T s s 0
@@ -34,23 +36,23 @@ module _ (T : Table) (s t : Line) (v : ℕ) (h : Along T s t v) (off : t .opened
   pub along-idles : next T t ≡ Nothing → outcome idle t ≡ look T 0 s
   along-idles e = sym (h .same ∙ look-unfolds T v t (h .sound) off ∙ ap (λ (o : Found). turn T v t o (look T (v + 1))) e)
 
-  pub room : v ≤ most
-  room = omega (arith, h .count, total-low T t (h .sound) off)
+  pub room : v ≤ mostMaxima
+  room = omega (arith, h .count, sum-low T t (h .sound) off)
 
   module _ (f : ℕ) (at : next T t ≡ At f) where
     pub flow : (f < T .n) × (0 < waitingOf t f)
     flow = found-in T t f at
 
-    pub flow-low : f < 16
+    pub flow-low : f < mostFlows
     flow-low = low T t (h .sound) f (flow .0)
 
     pub fits : deficitOf t f + quantumOf T f < 1000000
-    fits = omega (arith, h .sound .flows f flow-low .used (flow .0) .quantum-most, deficit-most T t (h .sound) off f)
+    fits = omega (arith, h .sound .flows f flow-low .used (flow .0) .quantum-most, deficit-most T t (h .sound) off f flow-low)
 
     opened-is : deficitOf (openAt T t f) f ≡ deficitOf t f + quantumOf T f
     opened-is = grown T t (h .sound) f at
 
-    pub sendable : due t f ≤ deficitOf t f + quantumOf T f → Sendable (openAt T t f) f
+    pub sendable : oldestCharge t f ≤ deficitOf t f + quantumOf T f → Sendable (openAt T t f) f
     sendable enough = record {
       size = length-set (t .deficits) f (deficitOf t f + quantumOf T f) ∙ h .sound .shape .deficits-length;
       flow = flow-low;
@@ -58,15 +60,16 @@ module _ (T : Table) (s t : Line) (v : ℕ) (h : Along T s t v) (off : t .opened
       enough = rw opened-is enough;
     }
 
-    opens : look T v t ≡ serve (leb (due t f) (deficitOf (openAt T t f) f)) (v + 1) (openAt T t f) f (look T (v + 1))
+    opens : look T v t ≡ serve (leb (oldestCharge t f) (deficitOf (openAt T t f) f)) (v + 1) (openAt T t f) f (look T (v + 1))
     opens = look-unfolds T v t (h .sound) off ∙ ap (λ (o : Found). turn T v t o (look T (v + 1))) at
 
-    pub along-sends : due t f ≤ deficitOf t f + quantumOf T f → sending (openAt T t f) f (v + 1) ≡ look T 0 s
+    pub along-sends : oldestCharge t f ≤ deficitOf t f + quantumOf T f → sending (openAt T t f) f (v + 1) ≡ look T 0 s
     along-sends enough =
-        sym (h .same ∙ opens ∙ ap (λ (b : Bool). serve b (v + 1) (openAt T t f) f (look T (v + 1))) (le-leb (due t f) (deficitOf (openAt T t f) f) (rw opened-is enough)))
+        let reaches = le-leb (oldestCharge t f) (deficitOf (openAt T t f) f) (rw opened-is enough) in
+        sym (h .same ∙ opens ∙ ap (λ (b : Bool). serve b (v + 1) (openAt T t f) f (look T (v + 1))) reaches)
 
-    module _ (short : deficitOf t f + quantumOf T f < due t f) where
-      short' : deficitOf (openAt T t f) f < due t f
+    module _ (short : deficitOf t f + quantumOf T f < oldestCharge t f) where
+      short' : deficitOf (openAt T t f) f < oldestCharge t f
       short' = rw opened-is short
 
       pub along-on : Along T s (closed (openAt T t f)) (v + 1)
@@ -76,8 +79,8 @@ module _ (T : Table) (s t : Line) (v : ℕ) (h : Along T s t v) (off : t .opened
         same = h .same ∙ opens ∙ ap (λ (b : Bool). serve b (v + 1) (openAt T t f) f (look T (v + 1))) (lt-leb _ _ short');
       }
 
-      pub along-falls : most - total (set (t .deficits) f (deficitOf t f + quantumOf T f)) < most - total (t .deficits)
-      along-falls = omega (arith, grows T t (h .sound) f at, total-low T (closed (openAt T t f)) (along-on .sound) refl)
+      pub along-falls : mostMaxima - sumOf (set (t .deficits) f (deficitOf t f + quantumOf T f)) < mostMaxima - sumOf (t .deficits)
+      along-falls = omega (arith, grows T t (h .sound) f at, sum-low T (closed (openAt T t f)) (along-on .sound) refl)
 
 -- ---- step 1: l with these deficits, and no visit open
 abbrev ended : Line → List ℕ → Line
@@ -111,20 +114,20 @@ module _ (T : Table) (l : Line) (ok : Sound T l) where
       same = sym (ap (λ (b : Bool). pickAt T b l) on ∙ ap (λ (b : Bool). carryOn T b l) nay);
     })
 
-    pub stops-short : 0 < waitingOf l p → deficitOf l p < due l p → (ds : List ℕ) → ds ≡ l .deficits → Ends T l ds
+    pub stops-short : 0 < waitingOf l p → deficitOf l p < oldestCharge l p → (ds : List ℕ) → ds ≡ l .deficits → Ends T l ds
     stops-short w short ds is =
-        stops (rw (lt-ltb 0 (waitingOf l p) w, lt-leb (due l p) (deficitOf l p) short)) (λ r. omega (arith, r .1)) ds
+        stops (rw (lt-ltb 0 (waitingOf l p) w, lt-leb (oldestCharge l p) (deficitOf l p) short)) (λ r. omega (arith, r .1)) ds
         (is ∙ rw (lt-ltb 0 (waitingOf l p) w, set-getD (l .deficits) p 0))
 
     pub stops-empty : waitingOf l p ≤ 0 → (ds : List ℕ) → ds ≡ set (l .deficits) p 0 → Ends T l ds
     stops-empty w ds is = stops (rw (le-ltb 0 (waitingOf l p) w)) (λ r. omega (arith, r .0)) ds (is ∙ rw (le-ltb 0 (waitingOf l p) w))
 
-    module _ (w : 0 < waitingOf l p) (enough : due l p ≤ deficitOf l p) where
+    module _ (w : 0 < waitingOf l p) (enough : oldestCharge l p ≤ deficitOf l p) where
       pub ready : Sendable (withVisit l p true) p
       ready = record { size = ok .shape .deficits-length; flow = low T l ok p (place-in T l ok on); waits = w; enough = enough }
 
       able : readyb l p ≡ true
-      able = rw (lt-ltb 0 (waitingOf l p) w, le-leb (due l p) (deficitOf l p) enough)
+      able = rw (lt-ltb 0 (waitingOf l p) w, le-leb (oldestCharge l p) (deficitOf l p) enough)
 
       pub goes : sending (withVisit l p true) p 0 ≡ pickOf T l
       goes =
@@ -132,5 +135,8 @@ module _ (T : Table) (l : Line) (ok : Sound T l) where
           ∙ sym (ap (λ (b : Bool). pickAt T b l) on ∙ ap (λ (b : Bool). carryOn T b l) able)
 
 -- ---- what a booking asks
-pub sound-bookable : {T : Table} {l : Line} → Sound T l → Bookable (T .n) (T .maxima)
-sound-bookable ok = record { flows-few = ok .flows-few; maxima-most = λ f q. ok .flows f (omega (arith, ok .flows-few)) .used q .maximum-most }
+pub sound-bookable : {T : Table} {l : Line} → Sound T l → Bookable (commonIn T) (T .maxima)
+sound-bookable ok = record {
+  flows-few = ok .flows-few;
+  maxima-most = λ f q. ok .flows f (omega (arith, ok .flows-few)) .used q .maximum-most;
+}

@@ -1,17 +1,19 @@
 // The scheduler's steps over lent arrays, each done once: the soundness test, the booking of an
 // arrival, and the pick. The public functions lend a State's parts to it, a run its own arrays.
 //
-// The arrays are those of a table (n, quanta, maxima) and of a line (counts, deficits, rows, and the
-// place with its visit in `spot`). Their contracts speak of them as `tableOf ..` and `lineOf ..`.
+// The arrays are those of a table (quanta, maxima, and its other numbers in `common`) and of a line (counts,
+// deficits, rows, and the place with its visit in `spot`). The contracts speak of them as `tableOf ..` and
+// `lineOf ..`.
 use drr::ArrivalAnswer;
+use drr::Common;
 use drr::Found;
 use drr::PickAnswer;
 use drr::Refusal;
 use drr::Spot;
 ghost use mathlib.Core.Path.{_≡_};
 ghost use mathlib.Core.Bool.{true, false};
-ghost use Prim.Native.Nat.{ℕ, _+_, _-_, _≤_, _<_};
-ghost use Rattle.drr.specs.State.{tableOf, lineOf, charge, shiftedOf};
+ghost use Prim.Native.Nat.{_+_, _-_, _≤_, _<_};
+ghost use Rattle.drr.specs.State.{tableOf, lineOf, spotAt, charge, shiftedOf};
 ghost use Rattle.drr.specs.Sound.{headb, numbersb, cellb, soundb};
 ghost use Rattle.drr.specs.Facts.{Sound};
 ghost use Rattle.drr.specs.Answers.{pickPaper, arrivalPaper, outcome};
@@ -81,8 +83,10 @@ fn send(
     f: usize,
     visits: u32,
 ) -> Picking
-    requires { ⌜ Sendable (lineOf (now counts) (now deficits) (now rows) (record { place = f; opened = true })) f ⌝ }
-    ensures { λ r. ⌜ outcome (pickPaper (r .answer)) (lineOf (now (counts .exit)) (now (deficits .exit)) (now (rows .exit)) (r .spot)) ≡ sending (lineOf (now (counts .entry)) (now (deficits .entry)) (now (rows .entry)) (record { place = f; opened = true })) f visits ⌝ }
+    requires { ⌜ Sendable (lineOf (now counts) (now deficits) (now rows) (spotAt f true)) f ⌝ }
+    ensures { λ r. ⌜
+        outcome (pickPaper (r .answer)) (lineOf (now (counts .exit)) (now (deficits .exit)) (now (rows .exit)) (r .spot))
+        ≡ sending (lineOf (now (counts .entry)) (now (deficits .entry)) (now (rows .entry)) (spotAt f true)) f visits ⌝ }
 {
     let row = rows[f];
     let length = row[0];
@@ -103,7 +107,7 @@ fn send(
 // Steps 2 and 3: visits are opened round the table until a packet is sent, or nothing waits.
 // The maxima bound the packets, and with them the number of visits; no step reads them.
 fn look(
-    n: usize,
+    common: Common,
     quanta: &[u32; 16],
     maxima: &[u32; 16],
     counts: &mut [u8; 16],
@@ -111,9 +115,15 @@ fn look(
     rows: &mut [[u16; 32]; 16],
     start: usize,
 ) -> Picking
-    requires { ⌜ Sound (tableOf n (now quanta) (now maxima)) (lineOf (now counts) (now deficits) (now rows) (record { place = start; opened = false })) ⌝ }
-    ensures { λ r. ⌜ outcome (pickPaper (r .answer)) (lineOf (now (counts .exit)) (now (deficits .exit)) (now (rows .exit)) (r .spot)) ≡ lookOf (tableOf n (now (quanta .entry)) (now (maxima .entry))) 0 (lineOf (now (counts .entry)) (now (deficits .entry)) (now (rows .entry)) (record { place = start; opened = false })) ⌝ }
+    requires { ⌜
+        Sound (tableOf common (now quanta) (now maxima))
+        (lineOf (now counts) (now deficits) (now rows) (spotAt start false)) ⌝ }
+    ensures { λ r. ⌜
+        outcome (pickPaper (r .answer)) (lineOf (now (counts .exit)) (now (deficits .exit)) (now (rows .exit)) (r .spot))
+        ≡ lookOf (tableOf common (now (quanta .entry)) (now (maxima .entry))) 0
+        (lineOf (now (counts .entry)) (now (deficits .entry)) (now (rows .entry)) (spotAt start false)) ⌝ }
 {
+    let n = common.n;
     let mut place = start;
     let mut visits: u32 = 0;
     loop {
@@ -128,11 +138,11 @@ fn look(
             };
         };
         visits += 1;
-        let due = charge_of(rows[f][0]);
+        let charge = charge_of(rows[f][0]);
         let d = deficits[f] + quanta[f];
         deficits[f] = d;
         place = f;
-        if due <= d {
+        if charge <= d {
             return send(counts, deficits, rows, f, visits);
         }
     }
@@ -140,7 +150,7 @@ fn look(
 
 // The pick on a sound line.
 pub fn pick_in(
-    n: usize,
+    common: Common,
     quanta: &[u32; 16],
     maxima: &[u32; 16],
     counts: &mut [u8; 16],
@@ -148,8 +158,12 @@ pub fn pick_in(
     rows: &mut [[u16; 32]; 16],
     spot: Spot,
 ) -> Picking
-    requires { ⌜ Sound (tableOf n (now quanta) (now maxima)) (lineOf (now counts) (now deficits) (now rows) spot) ⌝ }
-    ensures { λ r. ⌜ outcome (pickPaper (r .answer)) (lineOf (now (counts .exit)) (now (deficits .exit)) (now (rows .exit)) (r .spot)) ≡ pickOf (tableOf n (now (quanta .entry)) (now (maxima .entry))) (lineOf (now (counts .entry)) (now (deficits .entry)) (now (rows .entry)) spot) ⌝ }
+    requires { ⌜
+        Sound (tableOf common (now quanta) (now maxima)) (lineOf (now counts) (now deficits) (now rows) spot) ⌝ }
+    ensures { λ r. ⌜
+        outcome (pickPaper (r .answer)) (lineOf (now (counts .exit)) (now (deficits .exit)) (now (rows .exit)) (r .spot))
+        ≡ pickOf (tableOf common (now (quanta .entry)) (now (maxima .entry)))
+        (lineOf (now (counts .entry)) (now (deficits .entry)) (now (rows .entry)) spot) ⌝ }
 {
     let f = spot.place;
     if spot.opened {
@@ -161,22 +175,24 @@ pub fn pick_in(
             deficits[f] = 0;
         }
     }
-    look(n, quanta, maxima, counts, deficits, rows, f)
+    look(common, quanta, maxima, counts, deficits, rows, f)
 }
 
 // A packet of `length` bytes for `flow` is put at the end of its row, or refused by 1, 2, 3 or 4.
 pub fn book(
-    n: usize,
+    common: Common,
     maxima: &[u32; 16],
     counts: &mut [u8; 16],
     rows: &mut [[u16; 32]; 16],
     flow: usize,
     length: u32,
 ) -> ArrivalAnswer
-    requires { ⌜ Bookable n (now maxima) ⌝ }
-    ensures { λ r. ⌜ Booked n (now (maxima .entry)) (now (counts .entry)) (now (rows .entry)) flow length (arrivalPaper r) (now (counts .exit)) (now (rows .exit)) ⌝ }
+    requires { ⌜ Bookable common (now maxima) ⌝ }
+    ensures { λ r. ⌜
+        Booked common (now (maxima .entry)) (now (counts .entry)) (now (rows .entry)) flow length
+        (arrivalPaper r) (now (counts .exit)) (now (rows .exit)) ⌝ }
 {
-    if n <= flow {
+    if common.n <= flow {
         return ArrivalAnswer::Refused(Refusal::UnknownFlow);
     }
     if length == 0 {
@@ -186,7 +202,7 @@ pub fn book(
         return ArrivalAnswer::Refused(Refusal::OverMaximum);
     }
     let c = counts[flow];
-    if 32 <= c {
+    if drr::MOST_WAITING <= c {
         return ArrivalAnswer::Refused(Refusal::RowFull);
     }
     let k = c as usize;
@@ -199,7 +215,7 @@ pub fn book(
 fn head_ok(n: usize, place: usize, opened: bool) -> bool
     ensures { λ r. ⌜ r ≡ headb n place opened ⌝ }
 {
-    (n <= 16) & ((place < n) | ((n == 0) & (place == 0) & !opened))
+    (n <= drr::MOST_FLOWS) & ((place < n) | ((n == 0) & (place == 0) & !opened))
 }
 
 // The numbers of one flow, in use or not.
@@ -214,9 +230,9 @@ fn numbers_ok(
 ) -> bool
     ensures { λ r. ⌜ r ≡ numbersb used visited quantum maximum deficit count oldest ⌝ }
 {
-    let range = ((1 <= quantum) & (quantum <= 65535))
-        & ((1 <= maximum) & (maximum <= 9216))
-        & (count <= 32);
+    let range = ((drr::LEAST_QUANTUM <= quantum) & (quantum <= drr::MOST_QUANTUM))
+        & ((drr::LEAST_MAXIMUM <= maximum) & (maximum <= drr::MOST_MAXIMUM))
+        & (count <= drr::MOST_WAITING);
     let empty = count == 0;
     let credit = (visited & (deficit < quantum))
         | (!visited & ((empty & (deficit == 0)) | (!empty & (deficit < charge_of(oldest)))));
@@ -234,7 +250,7 @@ fn cell_ok(k: usize, count: u8, maximum: u32, length: u16) -> bool
 
 // Whether what the arrays hold is sound. Both loops are left at the first fault.
 pub fn sound_in(
-    n: usize,
+    common: Common,
     quanta: &[u32; 16],
     maxima: &[u32; 16],
     counts: &[u8; 16],
@@ -242,8 +258,11 @@ pub fn sound_in(
     rows: &[[u16; 32]; 16],
     spot: Spot,
 ) -> bool
-    ensures { λ r. ⌜ r ≡ soundb (tableOf n (now (quanta .entry)) (now (maxima .entry))) (lineOf (now (counts .entry)) (now (deficits .entry)) (now (rows .entry)) spot) ⌝ }
+    ensures { λ r. ⌜
+        r ≡ soundb (tableOf common (now (quanta .entry)) (now (maxima .entry)))
+        (lineOf (now (counts .entry)) (now (deficits .entry)) (now (rows .entry)) spot) ⌝ }
 {
+    let n = common.n;
     let place = spot.place;
     let opened = spot.opened;
     if !head_ok(n, place, opened) {

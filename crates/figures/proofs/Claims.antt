@@ -1,16 +1,14 @@
 -- What is proved of the figures beyond the functions' contracts.
 -- (Vectors.antt has P1 to P12.)
-use mathlib.Core.Path.{_≡_, refl, sym, _∙_}
+use mathlib.Core.Path.{_≡_, refl}
 use mathlib.Core.Bool.{cond}
-use Prim.Native.Nat.{ℕ}
 use lib.Dec.{eqb}
 use lib.ListN.{getD}
-use Rattle.drr.specs.declared.State.{State}
 use Rattle.drr.specs.Answers.{Answer}
 use Rattle.drr.proofs.Papers.{refusalOf, named, one-value}
 use Rattle.figures.specs.declared.Figure.{Figure}
 use Rattle.figures.specs.declared.Figure.the-variants.{Value, Refused}
-use Rattle.figures.specs.Answers.{figurePaper, owedAnswer, waitAnswer, lagAnswer}
+use Rattle.figures.specs.Answers.{figurePaper}
 
 figureFrom : Answer → Figure
 figureFrom a = cond (eqb (a .refusal) 0) (Value (getD (a .numbers) 0 0)) (Refused (refusalOf (a .refusal)))
@@ -23,13 +21,3 @@ figure-back (Refused why) = rw (named why .some, named why .back)
 -- two values of the enum never have the same paper answer
 pub figure-apart : (a b : Figure) → figurePaper a ≡ figurePaper b → a ≡ b
 figure-apart = one-value figurePaper figureFrom figure-back
-
--- no second answer meets a contract
-pub one-owed : (s : State) (flow S : ℕ) (r t : Figure) → figurePaper r ≡ owedAnswer s flow S → figurePaper t ≡ owedAnswer s flow S → r ≡ t
-one-owed s flow S r t p q = figure-apart r t (p ∙ sym q)
-
-pub one-wait : (s : State) (flow : ℕ) (r t : Figure) → figurePaper r ≡ waitAnswer s flow → figurePaper t ≡ waitAnswer s flow → r ≡ t
-one-wait s flow r t p q = figure-apart r t (p ∙ sym q)
-
-pub one-lag : (s : State) (flow : ℕ) (r t : Figure) → figurePaper r ≡ lagAnswer s flow → figurePaper t ≡ lagAnswer s flow → r ≡ t
-one-lag s flow r t p q = figure-apart r t (p ∙ sym q)

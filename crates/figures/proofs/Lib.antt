@@ -1,5 +1,4 @@
 -- Laws that several functions' proofs cite, the claims, and document 01's vectors.
 pub mod Laws
-pub mod Rows
 pub mod Claims
 pub mod Vectors

@@ -1,4 +1,4 @@
--- Document 01's P1 to P12: one table, and one claim, that every row holds of the definitions.
+-- Document 01's P1 to P12, "Marked P, to be proved": one table, and one claim, that each holds of the definitions.
 use mathlib.Core.Path.{_≡_, refl, _∙_}
 use mathlib.Core.List.{List, [], _∷_}
 use Prim.Native.Nat.{ℕ, _+_, _-_, _*_, _/_, _<_}
@@ -29,7 +29,7 @@ alone = flow 500 800 ∷ []
 abbrev twins : List FlowRecord
 twins = flow 1500 1500 ∷ flow 1500 1500 ∷ []
 
--- ---- the rows
+-- ---- a vector
 -- what is asked of a flow
 pub data Asked : Type 0 where
   itsC : Asked
@@ -42,23 +42,23 @@ told T i itsWait = wait T i
 told T i (itsOwed S) = owed T i S
 
 -- a figure of a flow and its value; two such; or a pick from the fresh state
-pub data Row : Type 0 where
-  figure : List FlowRecord → ℕ → Asked → ℕ → Row
-  both : Row → Row → Row
-  freshPick : List FlowRecord → Row
+pub data Vector : Type 0 where
+  figure : List FlowRecord → ℕ → Asked → ℕ → Vector
+  both : Vector → Vector → Vector
+  freshPick : List FlowRecord → Vector
 
-abbrev pub Holds : Row → Type 0
+abbrev pub Holds : Vector → Type 0
 Holds (figure flows i asked value) = told (tableFor flows) i asked ≡ value
 Holds (both a b) = Holds a × Holds b
 Holds (freshPick flows) = pickReply (freshState (tableFor flows)) ≡ reply idle (freshState (tableFor flows))
 
-abbrev pub Every : List Row → Type 0
+abbrev pub Every : List Vector → Type 0
 Every [] = Unit {0}
 Every (x ∷ xs) = Holds x × Every xs
 
 -- ---- the table
-abbrev pub rows : List Row
-rows =
+abbrev pub marked : List Vector
+marked =
     -- P1 to P3, this table's C
     figure worked 0 itsC 1610000
     ∷ figure worked 1 itsC 1410000
@@ -106,7 +106,7 @@ twins-ranged = made-ranged twins refl
 also : {A B : Type 0} → A → B → A × B
 also a b = (a, b)
 
-pub p1-to-p12 : Every rows
+pub p1-to-p12 : Every marked
 p1-to-p12 =
     also refl (also refl (also refl
     (also (waits worked-ranged 0 (omega arith) refl)

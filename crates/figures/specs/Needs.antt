@@ -1,12 +1,32 @@
--- What inner functions ask of their numbers.
-use Prim.Native.Nat.{ℕ, _≤_}
+-- What inner functions ask of a table and of its numbers, and answer.
+use Prim.Native.Nat.{ℕ, _+_, _*_, _-_, _≤_, _<_}
+use Rattle.drr.specs.declared.Table.{Table}
+use Rattle.drr.specs.Limits.{leastQuantum, mostQuantum, mostMaximum, mostQuanta, mostMaxima}
+use Rattle.drr.specs.State.{quantumOf, maximumOf}
+use Rattle.drr.specs.Facts.{Ranged}
+use Rattle.drr.specs.Figures.{allQuanta, allMaxima}
+use Rattle.figures.specs.declared.Measures.{Measures}
 
--- a flow's quantum and maximum, and the sums of all quanta and all maxima, in a table within setup's limits
-pub record Limited (quantum maximum quanta maxima : ℕ) : Type 0 where
-  pub quantum-least : 1 ≤ quantum
-  pub quantum-most : quantum ≤ 65535
-  pub maximum-most : maximum ≤ 9216
-  pub quantum-in : quantum ≤ quanta
-  pub maximum-in : maximum ≤ maxima
-  pub quanta-most : quanta ≤ 1048560
-  pub maxima-most : maxima ≤ 147456
+-- a flow of a table within setup's limits
+pub record Known (T : Table) (flow : ℕ) : Type 0 where
+  pub ranged : Ranged T
+  pub below : flow < T .n
+
+-- Q, l, F and L of flow i
+abbrev pub measuresOf : Table → ℕ → Measures
+measuresOf T i =
+    record { quantum = quantumOf T i; maximum = maximumOf T i; quanta = allQuanta T; maxima = allMaxima T }
+
+-- how far they go in a table within setup's limits
+pub record Limited (t : Measures) : Type 0 where
+  pub quantum-least : leastQuantum ≤ t .quantum
+  pub quantum-most : t .quantum ≤ mostQuantum
+  pub maximum-most : t .maximum ≤ mostMaximum
+  pub quantum-in : t .quantum ≤ t .quanta
+  pub maximum-in : t .maximum ≤ t .maxima
+  pub quanta-most : t .quanta ≤ mostQuanta
+  pub maxima-most : t .maxima ≤ mostMaxima
+
+-- "C = Q × (L - l) + (F - Q) × (Q + l)"
+abbrev pub lagFrom : Measures → ℕ
+lagFrom t = t .quantum * (t .maxima - t .maximum) + (t .quanta - t .quantum) * (t .quantum + t .maximum)

@@ -1,44 +1,36 @@
 -- What is proved of the reader and of a file's run beside their contracts.
-use mathlib.Core.Path.{_≡_, refl, sym, ap, _∙_}
+use mathlib.Core.Path.{_≡_, refl, ap, _∙_}
 use mathlib.Core.List.{List, [], _∷_, _++_}
 use Prim.Native.Nat.{ℕ, _+_, _*_, _≤_, _<_}
 use native.Mathlib.Omega.{arith}
+use borrow.Author.Tests.{eqb-true}
+use lib.Dec.{eqb}
 use lib.ListN.{length, length-append, drop}
-use Rattle.drr.specs.declared.Made.{Made}
 use Rattle.drr.specs.declared.Table.{Table}
-use Rattle.drr.specs.declared.Verdict.{Verdict}
 use Rattle.drr.specs.State.{Line, freshLine, freshState}
 use Rattle.drr.specs.Facts.{Sound, Ranged}
-use Rattle.drr.specs.Answers.{verdictPaper, reply}
 use Rattle.drr.specs.Figures.{owed}
-use Rattle.drr.specs.Floor.{afterCalls, bytesSent, flowSent, WaitsAtPicks}
-use Rattle.drr.proofs.Papers.{verdict-one, one-made}
+use Rattle.drr.specs.Floor.{lineAfter, afterCalls, bytesSent, flowSent, WaitsAtPicks}
+use Rattle.drr.proofs.Bools.{by-test}
 use Rattle.drr.proofs.Tables.{fresh-sound, made-ranged}
 use Rattle.drr.proofs.Calls.{fresh-state-sound}
-use Rattle.drr.proofs.Demand3.{demand-3}
+use Rattle.drr.proofs.Waiting.{fresh-waits}
+use Rattle.drr.proofs.Demand3.{calls-keep, demand-3}
 use Rattle.runfile.specs.declared.turns.Tally.{Tally}
-use Rattle.runfile.specs.File.{eventCount, eventOffset, flowsIn, eventsIn, fileAnswer, readReply, flowsReply, runAnswer}
-use Rattle.runfile.specs.Run.{Act, due, Timed, bookedIn, lineAfter, callsIn, tableIn, runCalls}
+use Rattle.runfile.specs.File.{eventCount, eventOffset, flowsIn, eventsIn, fileAnswer, runAnswer}
+use Rattle.runfile.specs.Run.{Act, free, Timed, bookedIn, callsIn, tableIn, runCalls}
 use Rattle.runfile.specs.Listing.{tally, tallyAfter, endLine, linesOf, ends, ticksOf, lastOf, acceptedTo, sentTo, runListing, filled}
 use Rattle.runfile.proofs.Files.{file-setup, file-sorted}
 use Rattle.runfile.proofs.Going.{events-length}
-use Rattle.runfile.proofs.Runs.{run-timed, run-books, run-only, run-empties, acts-keep}
+use Rattle.runfile.proofs.Runs.{run-timed, run-books, run-only, run-empties}
 use Rattle.runfile.proofs.Counts.{each-one, all-in-turn, listing-is, lines-length, ends-count, last-is}
 
--- no second answer, place or state meets the contract of `reader::read`
-pub one-read : (b : List ℕ) (r t : Made) →
-    reply (verdictPaper (r .answer)) (r .state) ≡ readReply b → reply (verdictPaper (t .answer)) (t .state) ≡ readReply b → r ≡ t
-one-read b = one-made (readReply b)
-
--- .. and of `reader::read_flows`
-pub one-flows : (b : List ℕ) (r t : Made) →
-    reply (verdictPaper (r .answer)) (r .state) ≡ flowsReply b → reply (verdictPaper (t .answer)) (t .state) ≡ flowsReply b → r ≡ t
-one-flows b = one-made (flowsReply b)
-
--- no second answer or content of the lent list meets the contract of `run`
-pub one-run : (b out : List ℕ) (r t : Verdict) (o p : List ℕ) →
-    (verdictPaper r ≡ runAnswer b (length out)) × (o ≡ filled b out) → (verdictPaper t ≡ runAnswer b (length out)) × (p ≡ filled b out) → (r ≡ t) × (o ≡ p)
-one-run b out r t o p h k = (verdict-one r t (h .0 ∙ sym (k .0)), h .1 ∙ sym (k .1))
+-- a refused run leaves the lent list as it came
+pub refused-leaves : (b out : List ℕ) → (runAnswer b (length out) .refusal ≡ 0 → ⊥) → filled b out ≡ out
+unfolding filled
+refused-leaves b out some =
+    by-test (λ (o : List ℕ). o ≡ out) (eqb (runAnswer b (length out) .refusal) 0)
+    (λ e. absurd (some (eqb-true (runAnswer b (length out) .refusal) 0 e))) (λ _. refl)
 
 -- ---- the run of a file that is not refused
 module _ (b : List ℕ) (ok : fileAnswer b .refusal ≡ 0) where
@@ -52,22 +44,24 @@ module _ (b : List ℕ) (ok : fileAnswer b .refusal ≡ 0) where
   ranged = made-ranged (flowsIn b) (file-setup b ok)
 
   -- its calls are timed as document 01 says, they book every event in the file's order, and no other list of calls does both
-  pub file-timed : Timed T 0 (due 0) (runCalls b) fresh
+  pub file-timed : Timed T 0 (free 0) (runCalls b) fresh
   file-timed = run-timed T ranged (eventsIn b) (file-sorted b ok)
 
   pub file-books : bookedIn (runCalls b) ≡ eventsIn b
   file-books = run-books T ranged (eventsIn b)
 
-  pub file-only : (ks : List Act) → Timed T 0 (due 0) ks fresh → bookedIn ks ≡ eventsIn b → ks ≡ runCalls b
+  pub file-only : (ks : List Act) → Timed T 0 (free 0) ks fresh → bookedIn ks ≡ eventsIn b → ks ≡ runCalls b
   file-only = run-only T ranged (eventsIn b) (file-sorted b ok)
 
   -- the line stays sound, after any calls and so after any of the run's
-  pub file-sound : (ks : List Act) → Sound T (lineAfter T ks fresh)
-  file-sound ks = acts-keep T ks fresh (fresh-sound ranged)
+  pub file-sound : (ks : List Act) → Sound T (lineAfter T fresh (callsIn ks))
+  file-sound ks = calls-keep T fresh (fresh-sound ranged) (callsIn ks)
 
   -- demand 3, in any stretch of calls and so in any of the run's
-  pub file-floor : (before stretch : List Act) (i : ℕ) → i < T .n → WaitsAtPicks (afterCalls (freshState T) (callsIn before)) (callsIn stretch) i →
-      owed T i (bytesSent (afterCalls (freshState T) (callsIn before)) (callsIn stretch)) ≤ flowSent (afterCalls (freshState T) (callsIn before)) (callsIn stretch) i
+  pub file-floor : (before stretch : List Act) (i : ℕ) → i < T .n →
+      WaitsAtPicks (afterCalls (freshState T) (callsIn before)) (callsIn stretch) i →
+      owed T i (bytesSent (afterCalls (freshState T) (callsIn before)) (callsIn stretch))
+      ≤ flowSent (afterCalls (freshState T) (callsIn before)) (callsIn stretch) i
   file-floor before stretch = demand-3 (freshState T) (fresh-state-sound ranged) (callsIn before) (callsIn stretch)
 
   -- ---- its lines: what line 3 tells, at the end
@@ -81,13 +75,16 @@ module _ (b : List ℕ) (ok : fileAnswer b .refusal ≡ 0) where
         arith,
         each-one T (runCalls b) fresh (tally 0 0 0) (fresh-sound ranged),
         run-empties T ranged (eventsIn b) (file-sorted b ok),
+        fresh-waits (T .n),
         ap length file-books,
         events-length (drop (eventOffset b) b) 0 (eventCount b),
       )
 
   -- .. and each accepted event its own S line: a flow's packets are sent in the order of its accepted events, each once
   pub file-in-turn : (i : ℕ) → i < T .n → acceptedTo T (runCalls b) fresh i ≡ sentTo T (runCalls b) fresh i
-  file-in-turn i i<n = all-in-turn T i i<n (runCalls b) fresh (fresh-sound ranged) refl (run-empties T ranged (eventsIn b) (file-sorted b ok))
+  file-in-turn i i<n =
+      all-in-turn T i i<n (runCalls b) fresh (fresh-sound ranged) (fresh-waits (T .n))
+      (run-empties T ranged (eventsIn b) (file-sorted b ok))
 
   pub file-listing : runListing b ≡ linesOf T (runCalls b) fresh ++ endLine count
   file-listing = listing-is T (runCalls b) fresh (tally 0 0 0)
@@ -100,9 +97,11 @@ module _ (b : List ℕ) (ok : fileAnswer b .refusal ≡ 0) where
   pub file-sent : count .sent ≡ length (ends T (runCalls b) fresh)
   file-sent = omega (arith, ends-count T (runCalls b) fresh (tally 0 0 0))
 
-  -- "The tick of line 3 is the end of the last packet sent; .. On a run without any sending it is the latest event's tick, or 0 with no event."
+  -- "The tick of line 3 is the end of the last packet sent; .. On a run without any sending it is the latest event's tick, or 0 with no
+  -- event."
   tick : count .last ≡ lastOf (lastOf 0 (ticksOf (eventsIn b))) (ends T (runCalls b) fresh)
-  tick = last-is T (runCalls b) fresh (tally 0 0 0) refl ∙ ap (λ (es : List _). lastOf (lastOf 0 (ticksOf es)) (ends T (runCalls b) fresh)) file-books
+  tick = last-is T (runCalls b) fresh (tally 0 0 0) refl
+      ∙ ap (λ (es : List _). lastOf (lastOf 0 (ticksOf es)) (ends T (runCalls b) fresh)) file-books
 
   pub tick-sent : (e : ℕ) (es : List ℕ) → ends T (runCalls b) fresh ≡ e ∷ es → count .last ≡ lastOf e es
   tick-sent e es h = tick ∙ ap (lastOf (lastOf 0 (ticksOf (eventsIn b)))) h
@@ -111,9 +110,12 @@ module _ (b : List ℕ) (ok : fileAnswer b .refusal ≡ 0) where
   tick-unsent h = tick ∙ ap (lastOf (lastOf 0 (ticksOf (eventsIn b)))) h
 
   pub tick-no-event : eventCount b ≡ 0 → count .last ≡ 0
-  tick-no-event none = by (ends T (runCalls b) fresh) (omega (arith, file-sent, file-lines)) (eventsIn b) (omega (arith, events-length (drop (eventOffset b) b) 0 (eventCount b))) tick
+  tick-no-event none =
+      by (ends T (runCalls b) fresh) (omega (arith, file-sent, file-lines)) (eventsIn b)
+      (omega (arith, events-length (drop (eventOffset b) b) 0 (eventCount b))) tick
     where
-      by : (xs : List ℕ) → length xs ≡ 0 → (es : List _) → length es ≡ 0 → count .last ≡ lastOf (lastOf 0 (ticksOf es)) xs → count .last ≡ 0
+      by : (xs : List ℕ) → length xs ≡ 0 → (es : List _) → length es ≡ 0 → count .last ≡ lastOf (lastOf 0 (ticksOf es)) xs →
+          count .last ≡ 0
       by [] p [] q h = h
       by (x ∷ xs) p es q h = absurd (omega arith)
       by [] p (e ∷ es) q h = absurd (omega arith)

@@ -1,45 +1,38 @@
 -- The whole run of a file: what its reader hands on, its answer, and what stands in the lent list.
-use mathlib.Core.Path.{_≡_, refl, sym, ap, subst, _∙_}
+use mathlib.Core.Path.{_≡_, sym, ap, subst, _∙_}
 use mathlib.Core.Bool.{cond}
 use mathlib.Core.List.{List, _++_}
 use Prim.Native.Nat.{ℕ, _+_, _*_, _-_, _≤_, _<_}
 use native.Mathlib.Omega.{arith}
 use borrow.Author.Tests.{lt-ltb, le-ltb}
-use lib.Dec.{eqb, ltb}
+use lib.Dec.{ltb}
 use lib.ListN.{length, take, drop, length-drop}
-use Rattle.drr.specs.declared.State.{State}
 use Rattle.drr.specs.declared.Table.{Table}
 use Rattle.drr.specs.declared.Refusal.{Refusal}
-use Rattle.drr.specs.State.{freshState}
+use Rattle.drr.specs.Limits.{mostEvents}
 use Rattle.drr.specs.Facts.{Ranged}
-use Rattle.drr.specs.Answers.{numberOf, Answer, fine, refusedAt, Reply, reply}
-use Rattle.drr.proofs.Bools.{by-test}
+use Rattle.drr.specs.Answers.{numberOf, fine, refusedAt}
 use Rattle.drr.proofs.Papers.{number-some}
 use Rattle.drr.proofs.Tables.{made-ranged}
-use Rattle.runfile.specs.File.{eventCount, eventOffset, flowCount, flowOffset, flowsIn, eventsFrom, fileAnswer, runAnswer, readReply}
+use Rattle.runfile.specs.File.{eventCount, eventOffset, flowCount, flowOffset, flowsIn, eventsFrom, layoutIn}
+use Rattle.runfile.specs.File.{fileAnswer, fileTable, fileEvents, runAnswer}
 use Rattle.runfile.specs.Run.{tableIn}
 use Rattle.runfile.specs.Listing.{eventsListing, runListing, filled}
 use Rattle.runfile.proofs.Files.{part-is, file-laid, file-setup, flows-length}
 
--- ---- the reader's answer is the file's; where it accepts, the state is fresh
-pub read-answer : (b : List ℕ) → readReply b .answer ≡ fileAnswer b
-unfolding readReply
-read-answer b = by-test (λ (z : Reply). z .answer ≡ fileAnswer b) (eqb (fileAnswer b .refusal) 0) (λ _. refl) (λ _. refl)
+-- ---- what the reader gave of a file without a fault
+module _ (b : List ℕ) (ok : fileAnswer b .refusal ≡ 0) where
+  pub table-is : fileTable b ≡ tableIn b
+  unfolding fileTable
+  table-is = rw ok
 
-pub read-state : (b : List ℕ) → fileAnswer b .refusal ≡ 0 → readReply b .state ≡ freshState (tableIn b)
-unfolding readReply
-read-state b e = rw e
-
--- what it gave, a and s, where a accepts
-module _ (b : List ℕ) (s : State) (e : reply fine s ≡ readReply b) where
-  pub accepted : fileAnswer b .refusal ≡ 0
-  accepted = ap (λ (a : Answer). a .refusal) (sym (read-answer b)) ∙ ap (λ (z : Reply). z .answer .refusal) (sym e)
-
-  pub table-is : s .table ≡ tableIn b
-  table-is = ap (λ (z : Reply). z .state .table) e ∙ ap (λ (z : State). z .table) (read-state b accepted)
+  pub events-are : fileEvents b ≡ layoutIn b .events
+  unfolding fileEvents
+  events-are = rw ok
 
 -- ---- what is handed on to the run of the events, of a file without a fault
-module _ (b : List ℕ) (ok : fileAnswer b .refusal ≡ 0) (T : Table) (is : T ≡ tableIn b) (m a : ℕ) (m-is : m ≡ eventCount b) (a-is : a ≡ eventOffset b) where
+module _ (b : List ℕ) (ok : fileAnswer b .refusal ≡ 0) (T : Table) (is : T ≡ tableIn b)
+    (m a : ℕ) (m-is : m ≡ eventCount b) (a-is : a ≡ eventOffset b) where
   abbrev part : List ℕ
   part = take (length b - a) (drop a b)
 
@@ -49,10 +42,15 @@ module _ (b : List ℕ) (ok : fileAnswer b .refusal ≡ 0) (T : Table) (is : T �
   some-flow : 1 ≤ T .n
   some-flow = omega (arith, ap (λ (t : Table). t .n) is, flows-length (drop (flowOffset b) b) 0 (flowCount b), file-laid b ok .flows-some)
 
-  pub handed : (out : List ℕ) → 6 * (eventCount b + 1) ≤ length out → ((8 * m ≤ length part) × (m ≤ 1024)) × ((Ranged T × (1 ≤ T .n)) × (6 * (m + 1) ≤ length out))
-  handed out room = ((part-long, omega (arith, file-laid b ok .events-few)), ((subst Ranged (sym is) (made-ranged (flowsIn b) (file-setup b ok)), some-flow), omega arith))
+  ranged : Ranged T
+  ranged = subst Ranged (sym is) (made-ranged (flowsIn b) (file-setup b ok))
 
-  pub listed : (out : List ℕ) → eventsListing T (eventsFrom part 0 m) ++ drop (6 * (m + 1)) out ≡ runListing b ++ drop (6 * (eventCount b + 1)) out
+  pub handed : (out : List ℕ) → 6 * (eventCount b + 1) ≤ length out →
+      ((8 * m ≤ length part) × (m ≤ mostEvents)) × ((Ranged T × (1 ≤ T .n)) × (6 * (m + 1) ≤ length out))
+  handed out room = ((part-long, omega (arith, file-laid b ok .events-few)), ((ranged, some-flow), omega arith))
+
+  pub listed : (out : List ℕ) →
+      eventsListing T (eventsFrom part 0 m) ++ drop (6 * (m + 1)) out ≡ runListing b ++ drop (6 * (eventCount b + 1)) out
   listed out = λ j. eventsListing (is j) (eventsFrom (part-is b a (eventOffset b) a-is j) 0 (m-is j)) ++ drop (6 * (m-is j + 1)) out
 
 -- ---- the answer, and the lent list `out`

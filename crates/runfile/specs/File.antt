@@ -1,13 +1,17 @@
 -- "The run file": its header, its two tables, and the refusals of a reader, over the list of its bytes.
-use Prim.Native.Nat.{ℕ, zero, suc, _+_, _*_, _%_, _≤_}
+use Prim.Native.Nat.{ℕ, zero, suc, _+_, _*_, _%_, _≤_, _<_}
 use mathlib.Core.Bool.{Bool, not, cond, _&&_, _||_}
 use mathlib.Core.List.{List, [], _∷_}
 use lib.Dec.{ltb, leb, eqb}
 use lib.ListN.{length, getD, drop}
+use Rattle.drr.specs.declared.Table.{Table}
 use Rattle.drr.specs.declared.FlowRecord.{FlowRecord}
-use Rattle.drr.specs.State.{freshState, emptyTable}
+use Rattle.drr.specs.Limits.{mostFlows, mostEvents}
+use Rattle.drr.specs.State.{noFlows, emptyTable}
 use Rattle.drr.specs.Answers.{Answer, fine, refusedAt, Reply, reply}
 use Rattle.drr.specs.Setup.{tableFor, flowsAnswer, setupReply}
+use Rattle.runfile.specs.declared.reader.Part.{Part}
+use Rattle.runfile.specs.declared.reader.Layout.{Layout}
 
 -- "Little-endian": two and four bytes from i on
 abbrev pub le2 : List ℕ → ℕ → ℕ
@@ -16,7 +20,15 @@ le2 b i = getD b i 0 + 256 * getD b (i + 1) 0
 abbrev pub le4 : List ℕ → ℕ → ℕ
 le4 b i = le2 b i + 65536 * le2 b (i + 2)
 
--- "The header has 20 bytes: flow count (2 bytes), event count (2), offset of the flow table (4), offset of the event table (4), file length (4), reserved, zero (4)."
+-- "a file without gaps takes at most 8,340 bytes, and one above 12,288 is refused"; "The header has 20 bytes"
+abbrev pub headerSize : ℕ
+headerSize = 20
+
+abbrev pub mostBytes : ℕ
+mostBytes = 12288
+
+-- "flow count (2 bytes), event count (2), offset of the flow table (4), offset of the event table (4), file length (4), reserved, zero
+-- (4)"
 abbrev pub flowCount : List ℕ → ℕ
 flowCount b = le2 b 0
 
@@ -34,6 +46,25 @@ statedLength b = le4 b 12
 
 abbrev pub reserved : List ℕ → ℕ
 reserved b = le4 b 16
+
+-- a table of the file: how many records it has, and its offset
+abbrev pub part : ℕ → ℕ → Part
+part count at = record { count = count; at = at }
+
+abbrev pub noRecords : Part
+noRecords = part 0 0
+
+-- .. in as many bytes as the header has for them
+pub record Narrow (p : Part) : Type 0 where
+  pub count-narrow : p .count < 65536
+  pub at-narrow : p .at < 4294967296
+
+-- where the two tables are
+abbrev pub layoutIn : List ℕ → Layout
+layoutIn b = record { flows = part (flowCount b) (flowOffset b); events = part (eventCount b) (eventOffset b) }
+
+abbrev pub noTables : Layout
+noTables = record { flows = noRecords; events = noRecords }
 
 -- "A flow record is quantum (4), maximum (4)": k records of the table t from number i on
 abbrev pub flowsFrom : List ℕ → ℕ → ℕ → List FlowRecord
@@ -60,24 +91,30 @@ flowsIn b = flowsFrom (drop (flowOffset b) b) 0 (flowCount b)
 abbrev pub eventsIn : List ℕ → List Event
 eventsIn b = eventsFrom (drop (eventOffset b) b) 0 (eventCount b)
 
--- "Offsets are multiples of 4, at or past byte 20. Tables lie inside the file (offset plus size at most the file length, for an empty table too) and share no byte; a table without records shares none."
+-- "Offsets are multiples of 4, at or past byte 20. Tables lie inside the file (offset plus size at most the file length, for an empty
+-- table too) and share no byte; a table without records shares none."
 abbrev pub tablesb : ℕ → ℕ → ℕ → ℕ → ℕ → Bool
 tablesb flows events flowsAt eventsAt size =
     (eqb (flowsAt % 4) 0 && eqb (eventsAt % 4) 0)
-    && (leb 20 flowsAt && leb 20 eventsAt)
+    && (leb headerSize flowsAt && leb headerSize eventsAt)
     && (leb (flowsAt + 8 * flows) size && leb (eventsAt + 8 * events) size)
     && (eqb flows 0 || eqb events 0 || leb (flowsAt + 8 * flows) eventsAt || leb (eventsAt + 8 * events) flowsAt)
 
--- 9, 10, 5, 11, 12: "file under 20 or above 12,288 bytes, or stated length not the true one", "reserved field not zero", "flow list of 0 or more than 16", "more than 1,024 events", "an offset or table against the rules above"
+-- 9, 10, 5, 11, 12: "file under 20 or above 12,288 bytes, or stated length not the true one", "reserved field not zero", "flow list of
+-- 0 or more than 16", "more than 1,024 events", "an offset or table against the rules above"
 unfoldable pub headerAnswer : List ℕ → Answer
 headerAnswer b =
-    cond (ltb (length b) 20 || ltb 12288 (length b)) (refusedAt 9 0)
+    cond (ltb (length b) headerSize || ltb mostBytes (length b)) (refusedAt 9 0)
     (cond (not (eqb (statedLength b) (length b))) (refusedAt 9 0)
     (cond (not (eqb (reserved b) 0)) (refusedAt 10 0)
-    (cond (eqb (flowCount b) 0 || ltb 16 (flowCount b)) (refusedAt 5 0)
-    (cond (ltb 1024 (eventCount b)) (refusedAt 11 0)
+    (cond (eqb (flowCount b) 0 || ltb mostFlows (flowCount b)) (refusedAt 5 0)
+    (cond (ltb mostEvents (eventCount b)) (refusedAt 11 0)
     (cond (not (tablesb (flowCount b) (eventCount b) (flowOffset b) (eventOffset b) (length b))) (refusedAt 12 0)
     fine)))))
+
+-- where the tables are, of a header without a fault
+unfoldable pub headerLayout : List ℕ → Layout
+headerLayout b = cond (eqb (headerAnswer b .refusal) 0) (layoutIn b) noTables
 
 -- 13: "an event's tick below the one before", from event i on, where the tick before was `last`
 abbrev pub ticksAnswer : ℕ → ℕ → List Event → Answer
@@ -101,10 +138,12 @@ fileAnswer b = firstRefused (headerAnswer b) (firstRefused (flowsAnswer 0 (flows
 unfoldable pub runAnswer : List ℕ → ℕ → Answer
 runAnswer b room = firstRefused (fileAnswer b) (cond (ltb room (6 * (eventCount b + 1))) (refusedAt 14 0) fine)
 
--- the reader's answer, and the fresh state of the file's flows beside it; a refusal gives the empty table, as setup's does
-unfoldable pub readReply : List ℕ → Reply
-readReply b =
-    cond (eqb (fileAnswer b .refusal) 0) (reply (fileAnswer b) (freshState (tableFor (flowsIn b)))) (reply (fileAnswer b) emptyTable)
+-- the table, and where the events stand; a refusal gives the empty table, as setup's does, and no events
+unfoldable pub fileTable : List ℕ → Table
+fileTable b = cond (eqb (fileAnswer b .refusal) 0) (tableFor (flowsIn b)) noFlows
+
+unfoldable pub fileEvents : List ℕ → Part
+fileEvents b = cond (eqb (fileAnswer b .refusal) 0) (part (eventCount b) (eventOffset b)) noRecords
 
 -- the answer of a reader that leaves the events alone: "9, 10, 5, 11, 12, 6 and 7 by flow", and the fresh state
 unfoldable pub flowsReply : List ℕ → Reply
@@ -112,10 +151,10 @@ flowsReply b = cond (eqb (headerAnswer b .refusal) 0) (setupReply (flowsIn b)) (
 
 -- what a header without a fault says
 pub record Laid (b : List ℕ) : Type 0 where
-  pub long : 20 ≤ length b
-  pub short : length b ≤ 12288
+  pub long : headerSize ≤ length b
+  pub short : length b ≤ mostBytes
   pub flows-some : 1 ≤ flowCount b
-  pub flows-few : flowCount b ≤ 16
-  pub events-few : eventCount b ≤ 1024
+  pub flows-few : flowCount b ≤ mostFlows
+  pub events-few : eventCount b ≤ mostEvents
   pub flows-inside : flowOffset b + 8 * flowCount b ≤ length b
   pub events-inside : eventOffset b + 8 * eventCount b ≤ length b

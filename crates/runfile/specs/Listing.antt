@@ -6,7 +6,7 @@ use lib.Dec.{eqb}
 use lib.ListN.{length, take, drop}
 use Rattle.drr.specs.declared.Table.{Table}
 use Rattle.drr.specs.State.{Line, charge, freshLine}
-use Rattle.drr.specs.Answers.{Answer}
+use Rattle.drr.specs.Answers.{Answer, lengthIn}
 use Rattle.drr.specs.Arrival.{arrivalOf}
 use Rattle.drr.specs.Computed.{pickOf}
 use Rattle.drr.specs.Floor.{givenIn, addedTo}
@@ -23,26 +23,25 @@ abbrev pub dropLine : ℕ → ℕ → ℕ → ℕ → List ℕ
 dropLine tick flow length refusal = cond (eqb refusal 0) [] (2 ∷ tick ∷ flow ∷ length ∷ refusal ∷ 0 ∷ [])
 
 -- "1, start tick, flow, length, deficit after, visits", of a pick that sends
-abbrev pub startLine : ℕ → List ℕ → List ℕ
-startLine tick [] = []
-startLine tick (flow ∷ more) = 1 ∷ tick ∷ flow ∷ more
+abbrev pub startLine : ℕ → Answer → List ℕ
+startLine tick a = cond (a .sends) (1 ∷ tick ∷ a .numbers) []
 
 abbrev pub lineFor : Act → Answer → List ℕ
 lineFor (comes tick flow length) a = dropLine tick flow length (a .refusal)
-lineFor (asks tick) a = startLine tick (a .numbers)
+lineFor (asks tick) a = startLine tick a
 
--- "The tick of line 3 is the end of the last packet sent; refused events after it don't move it. On a run without any sending it is the latest event's tick, or 0 with no event."
+-- "The tick of line 3 is the end of the last packet sent; refused events after it don't move it. On a run without any sending it is
+-- the latest event's tick, or 0 with no event."
 abbrev pub afterEvent : ℕ → ℕ → Tally → Tally
-afterEvent tick refusal y = tally (y .sent) (cond (eqb refusal 0) (y .refused) (y .refused + 1)) (cond (eqb (y .sent) 0) tick (y .last))
+afterEvent tick refusal y =
+    tally (y .sent) (cond (eqb refusal 0) (y .refused) (y .refused + 1)) (cond (eqb (y .sent) 0) tick (y .last))
 
-abbrev pub afterPick : ℕ → List ℕ → Tally → Tally
-afterPick tick [] y = y
-afterPick tick (flow ∷ []) y = y
-afterPick tick (flow ∷ length ∷ more) y = tally (y .sent + 1) (y .refused) (tick + charge length)
+abbrev pub afterPick : ℕ → Answer → Tally → Tally
+afterPick tick a y = cond (a .sends) (tally (y .sent + 1) (y .refused) (tick + charge (lengthIn a))) y
 
 abbrev pub afterAct : Act → Answer → Tally → Tally
 afterAct (comes tick flow length) a y = afterEvent tick (a .refusal) y
-afterAct (asks tick) a y = afterPick tick (a .numbers) y
+afterAct (asks tick) a y = afterPick tick a y
 
 -- the count after the calls: line 3 tells it
 abbrev pub tallyAfter : Table → List Act → Line → Tally → Tally
@@ -65,15 +64,13 @@ linesOf T [] l = []
 linesOf T (k ∷ ks) l = lineFor k (outcomeOf T l k .answer) ++ linesOf T ks (outcomeOf T l k .line)
 
 -- the ends of the packets sent, in their order
-abbrev pub endOf : ℕ → List ℕ → List ℕ
-endOf tick [] = []
-endOf tick (flow ∷ []) = []
-endOf tick (flow ∷ length ∷ more) = (tick + charge length) ∷ []
+abbrev pub endOf : ℕ → Answer → List ℕ
+endOf tick a = cond (a .sends) ((tick + charge (lengthIn a)) ∷ []) []
 
 abbrev pub ends : Table → List Act → Line → List ℕ
 ends T [] l = []
 ends T (comes tick flow length ∷ ks) l = ends T ks (arrivalOf T l flow length .line)
-ends T (asks tick ∷ ks) l = endOf tick (pickOf T l .answer .numbers) ++ ends T ks (pickOf T l .line)
+ends T (asks tick ∷ ks) l = endOf tick (pickOf T l .answer) ++ ends T ks (pickOf T l .line)
 
 -- the events' ticks, and the last number of a list, d for an empty one
 abbrev pub ticksOf : List Event → List ℕ
@@ -95,7 +92,7 @@ acceptedTo T (asks tick ∷ ks) l i = acceptedTo T ks (pickOf T l .line) i
 abbrev pub sentTo : Table → List Act → Line → ℕ → List ℕ
 sentTo T [] l i = []
 sentTo T (comes tick flow length ∷ ks) l i = sentTo T ks (arrivalOf T l flow length .line) i
-sentTo T (asks tick ∷ ks) l i = givenIn (pickOf T l .answer .numbers) i ++ sentTo T ks (pickOf T l .line) i
+sentTo T (asks tick ∷ ks) l i = givenIn (pickOf T l .answer) i ++ sentTo T ks (pickOf T l .line) i
 
 -- the listing of these events on a fresh line of the table
 abbrev pub eventsListing : Table → List Event → List ℕ

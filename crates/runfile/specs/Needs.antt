@@ -12,5 +12,5 @@ abbrev pub Room : Tally → List ℕ → Type 0
 Room y out = (6 * (y .sent + y .refused) + 6 ≤ length out) × (y .sent + y .refused ≤ 1024)
 
 -- event `at` of m is there, and its tick is at or before now
-abbrev pub dueb : List ℕ → ℕ → ℕ → ℕ → Bool
-dueb t m at now = cond (ltb at m) (leb (eventAt t at .tick) now) false
+abbrev pub comeb : List ℕ → ℕ → ℕ → ℕ → Bool
+comeb t m at now = cond (ltb at m) (leb (eventAt t at .tick) now) false

@@ -1,92 +1,156 @@
 // The reader of a run file: any bytes at all, and every refusal in document 01's order.
+use super::fields::le2;
+use super::fields::le4;
+use drr::FlowList;
+use drr::FlowRecord;
 use drr::Made;
 use drr::Refusal;
+use drr::Table;
+use drr::Tabled;
+use drr::Terms;
 use drr::Verdict;
 ghost use mathlib.Core.Path.{_≡_};
-ghost use Prim.Native.Nat.{ℕ, _+_, _*_, _≤_, _<_};
+ghost use Prim.Native.Nat.{_+_, _*_, _≤_, _<_};
 ghost use lib.ListN.{length};
-ghost use Rattle.drr.specs.Answers.{verdictPaper, reply, fine};
-ghost use Rattle.drr.specs.Setup.{setupReply};
-ghost use Rattle.runfile.specs.File.{le2 as le2Of, le4 as le4Of, tablesb, headerAnswer, flowsFrom, eventsFrom, flowsIn, ticksAnswer, readReply, flowsReply, Laid};
+ghost use Rattle.drr.specs.State.{noFlows, freshState};
+ghost use Rattle.drr.specs.Answers.{numberOf, fine, refusedAt, verdictPaper, reply};
+ghost use Rattle.drr.specs.Setup.{setupAnswer, setupTable, recordsIn};
+ghost use Rattle.runfile.specs.File.{Narrow, noRecords, layoutIn, noTables, tablesb, Laid};
+ghost use Rattle.runfile.specs.File.{headerAnswer, headerLayout, flowsFrom, flowsIn, eventsFrom, ticksAnswer};
+ghost use Rattle.runfile.specs.File.{fileAnswer, fileTable, fileEvents, flowsReply};
 
-fn wide(x: u8) -> usize
-    ensures { λ r. ⌜ (r ≡ x) × (r < 256) ⌝ }
-{
-    x as usize
+// A table of the file: how many records it has, and its offset.
+pub struct Part {
+    pub count: usize,
+    pub at: usize,
 }
 
-// Two bytes, little-endian.
-pub fn le2(b: &[u8], i: usize) -> usize
-    requires { ⌜ i + 2 ≤ length (now b) ⌝ }
-    ensures { λ r. ⌜ (r ≡ le2Of (now (b .entry)) i) × (r < 65536) ⌝ }
-{
-    wide(b[i]) + 256 * wide(b[i + 1])
+// Where the two tables are.
+pub struct Layout {
+    pub flows: Part,
+    pub events: Part,
 }
 
-// Four bytes, little-endian.
-pub fn le4(b: &[u8], i: usize) -> usize
-    requires { ⌜ i + 4 ≤ length (now b) ⌝ }
-    ensures { λ r. ⌜ (r ≡ le4Of (now (b .entry)) i) × (r < 4294967296) ⌝ }
+// What the header says, beside its refusal.
+struct Headed {
+    answer: Verdict,
+    layout: Layout,
+}
+
+// What the file holds, beside its refusal.
+pub struct Contents {
+    pub answer: Verdict,
+    pub table: Table,
+    pub events: Part,
+}
+
+// The header's fields of the two tables.
+fn layout_of(file: &[u8]) -> Layout
+    requires { ⌜ 20 ≤ length (now file) ⌝ }
+    ensures { λ r. ⌜ (r ≡ layoutIn (now (file .entry))) × Narrow (r .flows) × Narrow (r .events) ⌝ }
 {
-    le2(b, i) + 65536 * le2(b, i + 2)
+    let flows = le2(file, 0);
+    let events = le2(file, 2);
+    let flows_at = le4(file, 4);
+    let events_at = le4(file, 8);
+    Layout {
+        flows: Part {
+            count: flows,
+            at: flows_at,
+        },
+        events: Part {
+            count: events,
+            at: events_at,
+        },
+    }
 }
 
 // The rules for the two tables' places. Sums of 32-bit offsets do not wrap in 64 bits.
-fn tables_ok(flows: usize, events: usize, flows_at: usize, events_at: usize, size: usize) -> bool
-    requires { ⌜ (flows < 65536) × (events < 65536) ⌝ }
-    requires { ⌜ («flows_at» < 4294967296) × («events_at» < 4294967296) ⌝ }
-    ensures { λ r. ⌜ r ≡ tablesb flows events «flows_at» «events_at» size ⌝ }
+fn tables_ok(flows: Part, events: Part, size: usize) -> bool
+    requires { ⌜ Narrow flows × Narrow events ⌝ }
+    ensures { λ r. ⌜ r ≡ tablesb (flows .count) (events .count) (flows .at) (events .at) size ⌝ }
 {
-    let flows_end = flows_at + 8 * flows;
-    let events_end = events_at + 8 * events;
-    ((flows_at % 4 == 0) & (events_at % 4 == 0))
-        & ((20 <= flows_at) & (20 <= events_at))
+    let flows_end = flows.at + 8 * flows.count;
+    let events_end = events.at + 8 * events.count;
+    ((flows.at % 4 == 0) & (events.at % 4 == 0))
+        & ((20 <= flows.at) & (20 <= events.at))
         & ((flows_end <= size) & (events_end <= size))
-        & ((flows == 0) | (events == 0) | (flows_end <= events_at) | (events_end <= flows_at))
+        & ((flows.count == 0)
+            | (events.count == 0)
+            | (flows_end <= events.at)
+            | (events_end <= flows.at))
 }
 
-// Refusals 9, 10, 5, 11 and 12, in this order.
-pub fn header(file: &[u8]) -> Verdict
-    ensures { λ r. ⌜ verdictPaper r ≡ headerAnswer (now (file .entry)) ⌝ }
+fn no_tables(why: Refusal) -> Headed
+    ensures { λ r. ⌜ (verdictPaper (r .answer) ≡ refusedAt (numberOf why) 0) × (r .layout ≡ noTables) ⌝ }
+{
+    let none = Part { count: 0, at: 0 };
+    Headed {
+        answer: Verdict::Refused(why, 0),
+        layout: Layout {
+            flows: none,
+            events: none,
+        },
+    }
+}
+
+// Refusals 9, 10, 5, 11 and 12, in this order, and where the tables are.
+fn header(file: &[u8]) -> Headed
+    ensures { λ r. ⌜ verdictPaper (r .answer) ≡ headerAnswer (now (file .entry)) ⌝ }
+    ensures { λ r. ⌜ r .layout ≡ headerLayout (now (file .entry)) ⌝ }
 {
     let size = file.len();
     if (size < 20) | (12288 < size) {
-        return Verdict::Refused(Refusal::FileLength, 0);
+        return no_tables(Refusal::FileLength);
     }
     if le4(file, 12) != size {
-        return Verdict::Refused(Refusal::FileLength, 0);
+        return no_tables(Refusal::FileLength);
     }
     if le4(file, 16) != 0 {
-        return Verdict::Refused(Refusal::Reserved, 0);
+        return no_tables(Refusal::Reserved);
     }
-    let flows = le2(file, 0);
-    if (flows == 0) | (16 < flows) {
-        return Verdict::Refused(Refusal::FlowCount, 0);
+    let layout = layout_of(file);
+    let flows = layout.flows;
+    let events = layout.events;
+    if (flows.count == 0) | (drr::MOST_FLOWS < flows.count) {
+        return no_tables(Refusal::FlowCount);
     }
-    let events = le2(file, 2);
-    if 1024 < events {
-        return Verdict::Refused(Refusal::EventCount, 0);
+    if drr::MOST_EVENTS < events.count {
+        return no_tables(Refusal::EventCount);
     }
-    if !tables_ok(flows, events, le4(file, 4), le4(file, 8), size) {
-        return Verdict::Refused(Refusal::TablePlace, 0);
+    if !tables_ok(flows, events, size) {
+        return no_tables(Refusal::TablePlace);
     }
-    Verdict::Fine
+    Headed {
+        answer: Verdict::Fine,
+        layout: layout,
+    }
 }
 
-// The setup of n flow records that stand at the start of a part of the file: 6 and 7 by flow.
-fn setup_table(t: &[u8], n: usize) -> Made
-    requires { ⌜ (8 * n ≤ length (now t)) × (1 ≤ n) × (n ≤ 16) ⌝ }
-    ensures { λ r. ⌜ reply (verdictPaper (r .answer)) (r .state) ≡ setupReply (flowsFrom (now (t .entry)) 0 n) ⌝ }
+// The n flow records that stand at the start of a part of the file.
+fn records(t: &[u8], n: usize) -> FlowList
+    requires { ⌜ (8 * n ≤ length (now t)) × (n ≤ 16) ⌝ }
+    ensures { λ r. ⌜ recordsIn r ≡ flowsFrom (now (t .entry)) 0 n ⌝ }
 {
-    let mut quanta = [0u32; 16];
-    let mut maxima = [0u32; 16];
+    let none = FlowRecord {
+        quantum: 0,
+        maximum: 0,
+    };
+    let mut records = [none; 17];
     let mut i: usize = 0;
     while i < n {
-        quanta[i] = le4(t, 8 * i) as u32;
-        maxima[i] = le4(t, 8 * i + 4) as u32;
+        let quantum = le4(t, 8 * i) as u32;
+        let maximum = le4(t, 8 * i + 4) as u32;
+        records[i] = FlowRecord {
+            quantum: quantum,
+            maximum: maximum,
+        };
         i += 1;
     }
-    scheduler::flows::setup_of(quanta, maxima, n)
+    FlowList {
+        records: records,
+        count: n,
+    }
 }
 
 // 13, of m events that stand at the start of a part of the file.
@@ -107,54 +171,95 @@ fn ticks(t: &[u8], m: usize) -> Verdict
     Verdict::Fine
 }
 
-// 6 and 7 of a file whose header has no fault, and the fresh state of its flows.
-fn flows_of(file: &[u8]) -> Made
-    requires { ⌜ Laid (now file) ⌝ }
-    ensures { λ r. ⌜ reply (verdictPaper (r .answer)) (r .state) ≡ setupReply (flowsIn (now (file .entry))) ⌝ }
+// 6 and 7 of a file whose header has no fault, and the table of its flows.
+fn flows_of(file: &[u8], flows: Part) -> Tabled
+    requires { ⌜ Laid (now file) × (flows ≡ layoutIn (now file) .flows) ⌝ }
+    ensures { λ r. ⌜ verdictPaper (r .answer) ≡ setupAnswer (flowsIn (now (file .entry))) ⌝ }
+    ensures { λ r. ⌜ r .table ≡ setupTable (flowsIn (now (file .entry))) ⌝ }
 {
-    let flows = le2(file, 0);
-    let flows_at = le4(file, 4);
-    setup_table(&file[flows_at..], flows)
+    let at = flows.at;
+    let list = records(&file[at..], flows.count);
+    scheduler::flows::table_of(list, Terms {})
 }
 
-// 6, 7 and 13 of a file whose header has no fault, and the fresh state of its flows.
-fn read_tables(file: &[u8]) -> Made
-    requires { ⌜ Laid (now file) ⌝ }
-    requires { ⌜ headerAnswer (now file) ≡ fine ⌝ }
-    ensures { λ r. ⌜ reply (verdictPaper (r .answer)) (r .state) ≡ readReply (now (file .entry)) ⌝ }
+// A refusal gives the empty table, and no events.
+fn refused(why: Refusal, place: usize) -> Contents
+    ensures { λ r. ⌜ (verdictPaper (r .answer) ≡ refusedAt (numberOf why) place) × (r .table ≡ noFlows) × (r .events ≡ noRecords) ⌝ }
 {
-    let events = le2(file, 2);
-    let events_at = le4(file, 8);
-    let made = flows_of(file);
+    let none = scheduler::flows::refused(why, place);
+    let answer = none.answer;
+    let table = none.table;
+    Contents {
+        answer: answer,
+        table: table,
+        events: Part { count: 0, at: 0 },
+    }
+}
+
+// 6, 7 and 13 of a file whose header has no fault.
+fn read_tables(file: &[u8], layout: Layout) -> Contents
+    requires { ⌜ (headerAnswer (now file) ≡ fine) × (layout ≡ layoutIn (now file)) ⌝ }
+    ensures { λ r. ⌜ verdictPaper (r .answer) ≡ fileAnswer (now (file .entry)) ⌝ }
+    ensures { λ r. ⌜ (r .table ≡ fileTable (now (file .entry))) × (r .events ≡ fileEvents (now (file .entry))) ⌝ }
+{
+    let flows = layout.flows;
+    let events = layout.events;
+    let made = flows_of(file, flows);
     let answer = made.answer;
-    if let Verdict::Refused(_, _) = answer {
-        return made;
+    if let Verdict::Refused(why, place) = answer {
+        return refused(why, place);
     }
-    let order = ticks(&file[events_at..], events);
+    let at = events.at;
+    let order = ticks(&file[at..], events.count);
     if let Verdict::Refused(why, place) = order {
-        return scheduler::flows::refused(why, place);
+        return refused(why, place);
     }
-    made
+    let table = made.table;
+    Contents {
+        answer: Verdict::Fine,
+        table: table,
+        events: events,
+    }
 }
 
-// Every refusal of the file itself, in order; the fresh state of its flows where there is none.
-pub fn read(file: &[u8]) -> Made
-    ensures { λ r. ⌜ reply (verdictPaper (r .answer)) (r .state) ≡ readReply (now (file .entry)) ⌝ }
+// Every refusal of the file itself, in order; its table and where its events stand where there is none.
+pub fn read(file: &[u8]) -> Contents
+    ensures { λ r. ⌜ verdictPaper (r .answer) ≡ fileAnswer (now (file .entry)) ⌝ }
+    ensures { λ r. ⌜ (r .table ≡ fileTable (now (file .entry))) × (r .events ≡ fileEvents (now (file .entry))) ⌝ }
 {
     let h = header(file);
-    if let Verdict::Refused(why, place) = h {
-        return scheduler::flows::refused(why, place);
+    let answer = h.answer;
+    if let Verdict::Refused(why, place) = answer {
+        return refused(why, place);
     }
-    read_tables(file)
+    let layout = h.layout;
+    read_tables(file, layout)
 }
 
-// The same for a reader that leaves the events alone: every refusal but 13.
+// 9, 10, 5, 11, 12, 6 and 7, with the table of the file's flows: the events are left alone.
+fn table_in(file: &[u8]) -> Tabled
+    ensures { λ r. ⌜ reply (verdictPaper (r .answer)) (freshState (r .table)) ≡ flowsReply (now (file .entry)) ⌝ }
+{
+    let h = header(file);
+    let answer = h.answer;
+    if let Verdict::Refused(why, place) = answer {
+        return scheduler::flows::refused(why, place);
+    }
+    let layout = h.layout;
+    let flows = layout.flows;
+    flows_of(file, flows)
+}
+
+// The fresh state of the file's flows, for a program that leaves the events alone: every refusal but 13.
 pub fn read_flows(file: &[u8]) -> Made
     ensures { λ r. ⌜ reply (verdictPaper (r .answer)) (r .state) ≡ flowsReply (now (file .entry)) ⌝ }
 {
-    let h = header(file);
-    if let Verdict::Refused(why, place) = h {
-        return scheduler::flows::refused(why, place);
+    let made = table_in(file);
+    let answer = made.answer;
+    let table = made.table;
+    let state = scheduler::flows::fresh(table);
+    Made {
+        answer: answer,
+        state: state,
     }
-    flows_of(file)
 }

@@ -1,33 +1,28 @@
 // The run of a file's events: the engine's booking and pick over local arrays, and a line written for
 // each packet sent and each event refused.
-use super::reader::le2;
-use super::reader::le4;
+use super::fields::le2;
+use super::fields::le4;
 use drr::ArrivalAnswer;
 use drr::PickAnswer;
 use drr::Spot;
+use drr::Table;
 ghost use mathlib.Core.Path.{_≡_};
 ghost use mathlib.Core.Bool.{cond, false};
 ghost use mathlib.Core.List.{_++_, _∷_, []};
-ghost use Prim.Native.Nat.{ℕ, _+_, _*_, _-_, _≤_, _<_};
+ghost use Prim.Native.Nat.{_+_, _*_, _-_, _≤_, _<_};
 ghost use lib.ListN.{length, drop};
-ghost use Rattle.drr.specs.State.{tableOf};
+ghost use Rattle.drr.specs.State.{spotAt};
 ghost use Rattle.drr.specs.Facts.{Ranged};
 ghost use Rattle.drr.specs.Answers.{arrivalPaper};
 ghost use Rattle.runfile.specs.File.{eventsFrom};
 ghost use Rattle.runfile.specs.Listing.{tally, dropLine, afterEvent, written, eventsListing};
-ghost use Rattle.runfile.specs.Needs.{Room, dueb};
+ghost use Rattle.runfile.specs.Needs.{Room, comeb};
 
 // Packets sent, events refused, and the tick of line 3, so far.
 pub struct Tally {
     pub sent: usize,
     pub refused: usize,
     pub last: usize,
-}
-
-fn wide(x: u32) -> usize
-    ensures { λ r. ⌜ r ≡ x ⌝ }
-{
-    x as usize
 }
 
 fn either(test: bool, a: usize, b: usize) -> usize
@@ -75,13 +70,24 @@ fn note(
 ) -> Tally
     requires { ⌜ Room y (now out) ⌝ }
     ensures { λ r. ⌜ r ≡ afterEvent tick (arrivalPaper answer .refusal) y ⌝ }
-    ensures { λ _. ⌜ now (out .exit) ≡ written (now (out .entry)) (y .sent + y .refused) (dropLine tick flow len (arrivalPaper answer .refusal)) ⌝ }
+    ensures { λ _. ⌜
+        now (out .exit)
+        ≡ written (now (out .entry)) (y .sent + y .refused) (dropLine tick flow len (arrivalPaper answer .refusal)) ⌝ }
 {
     match answer {
         ArrivalAnswer::Accepted => after_event(y, tick, 0),
         ArrivalAnswer::Refused(why) => {
             let number = drr::refusal_number(why);
-            put_line(out, y.sent + y.refused, 2, tick, flow, len, wide(number), 0);
+            put_line(
+                out,
+                y.sent + y.refused,
+                2,
+                tick,
+                flow,
+                len,
+                widths::usize_of_u32(number),
+                0,
+            );
             after_event(y, tick, number)
         }
     }
@@ -100,9 +106,11 @@ fn send_line(
     requires { ⌜ Room y (now out) ⌝ }
     requires { ⌜ start + len ≤ 5000000000 ⌝ }
     ensures { λ r. ⌜ r ≡ tally (y .sent + 1) (y .refused) (start + len) ⌝ }
-    ensures { λ _. ⌜ now (out .exit) ≡ written (now (out .entry)) (y .sent + y .refused) (1 ∷ start ∷ flow ∷ len ∷ deficit ∷ visits ∷ []) ⌝ }
+    ensures { λ _. ⌜
+        now (out .exit)
+        ≡ written (now (out .entry)) (y .sent + y .refused) (1 ∷ start ∷ flow ∷ len ∷ deficit ∷ visits ∷ []) ⌝ }
 {
-    let size = wide(len);
+    let size = widths::usize_of_u32(len);
     put_line(
         out,
         y.sent + y.refused,
@@ -110,8 +118,8 @@ fn send_line(
         start,
         flow,
         size,
-        wide(deficit),
-        wide(visits),
+        widths::usize_of_u32(deficit),
+        widths::usize_of_u32(visits),
     );
     Tally {
         sent: y.sent + 1,
@@ -131,7 +139,7 @@ fn no_lines() -> Tally
 }
 
 fn closed_at(place: usize) -> Spot
-    ensures { λ r. ⌜ r ≡ record { place = place; opened = false } ⌝ }
+    ensures { λ r. ⌜ r ≡ spotAt place false ⌝ }
 {
     Spot {
         place: place,
@@ -140,9 +148,9 @@ fn closed_at(place: usize) -> Spot
 }
 
 // Whether event `at` of m is there, and its tick is at or before `tick`.
-fn is_due(t: &[u8], m: usize, at: usize, tick: usize) -> bool
+fn has_come(t: &[u8], m: usize, at: usize, tick: usize) -> bool
     requires { ⌜ (8 * m ≤ length (now t)) × (m ≤ 1024) ⌝ }
-    ensures { λ r. ⌜ r ≡ dueb (now (t .entry)) m at tick ⌝ }
+    ensures { λ r. ⌜ r ≡ comeb (now (t .entry)) m at tick ⌝ }
 {
     if at < m {
         le4(t, 8 * at) <= tick
@@ -153,40 +161,38 @@ fn is_due(t: &[u8], m: usize, at: usize, tick: usize) -> bool
 
 // The run of the m events that stand at the start of a part of the file, from tick 0 and a fresh line,
 // into a lent list with room for its lines.
-pub fn run_events(
-    t: &[u8],
-    m: usize,
-    n: usize,
-    quanta: &[u32; 16],
-    maxima: &[u32; 16],
-    out: &mut [u64],
-)
+pub fn run_events(t: &[u8], m: usize, table: Table, out: &mut [u64])
     requires { ⌜ (8 * m ≤ length (now t)) × (m ≤ 1024) ⌝ }
-    requires { ⌜ Ranged (tableOf n (now quanta) (now maxima)) × (1 ≤ n) ⌝ }
+    requires { ⌜ Ranged table × (1 ≤ table .n) ⌝ }
     requires { ⌜ 6 * (m + 1) ≤ length (now out) ⌝ }
-    ensures { λ _. ⌜ now (out .exit) ≡ eventsListing (tableOf n (now (quanta .entry)) (now (maxima .entry))) (eventsFrom (now (t .entry)) 0 m) ++ drop (6 * (m + 1)) (now (out .entry)) ⌝ }
+    ensures { λ _. ⌜
+        now (out .exit)
+        ≡ eventsListing table (eventsFrom (now (t .entry)) 0 m) ++ drop (6 * (m + 1)) (now (out .entry)) ⌝ }
 {
+    let common = drr::common_of(table);
+    let quanta = table.quanta;
+    let maxima = table.maxima;
     let mut counts = [0u8; 16];
     let mut deficits = [0u32; 16];
     let mut rows = [[0u16; 32]; 16];
-    let mut spot = closed_at(n - 1);
+    let mut spot = closed_at(common.n - 1);
     let mut y = no_lines();
     let mut now: usize = 0;
     let mut at: usize = 0;
     loop {
-        if is_due(t, m, at, now) {
+        if has_come(t, m, at, now) {
             let tick = le4(t, 8 * at);
             let flow = le2(t, 8 * at + 4);
             let len = le2(t, 8 * at + 6);
-            let answer = engine::book(n, maxima, &mut counts, &mut rows, flow, len as u32);
+            let answer = engine::book(common, &maxima, &mut counts, &mut rows, flow, len as u32);
             y = note(out, y, tick, flow, len, answer);
             at += 1;
             continue;
         }
         let p = engine::pick_in(
-            n,
-            quanta,
-            maxima,
+            common,
+            &quanta,
+            &maxima,
             &mut counts,
             &mut deficits,
             &mut rows,
@@ -203,6 +209,6 @@ pub fn run_events(
             continue;
         };
         y = send_line(out, y, now, flow, len, deficit, visits);
-        now += wide(len);
+        now += widths::usize_of_u32(len);
     }
 }

@@ -1,95 +1,111 @@
--- Setup: the records in two arrays, the answer flow by flow, and the cells of the table.
+-- Setup on a list of records: its answer flow by flow, the cells of its table, and what the three ways of the code give.
 use mathlib.Core.Path.{_≡_, refl, sym, ap, _∙_}
 use mathlib.Core.Bool.{Bool, true, false, _||_}
-use mathlib.Core.List.{List, [], _∷_, _++_}
-use Prim.Native.Nat.{ℕ, zero, suc, _+_, _-_, _≤_, _<_}
-use native.Mathlib.Omega.{arith}
+use mathlib.Core.List.{List, [], _∷_}
+use mathlib.Core.Logic.{⊎-elim}
+use Prim.Native.Nat.{ℕ, zero, suc, _+_, _≤_, _<_}
+use native.Mathlib.Nat.{not-suc-le-zero}
 use native.Mathlib.Numerals.{add-one}
-use borrow.Author.Tests.{ltb-false}
+use native.Mathlib.Omega.{arith}
+use borrow.Author.Tests.{lt-ltb}
 use lib.Dec.{eqb, ltb}
-use lib.ListN.{length, getD, take, drop, replicate}
-use lib.Seq.{drop-cons}
+use lib.ListN.{length, getD, set, take, drop, length-take}
+use lib.Seq.{length-take-le, getD-take, drop-cons}
 use Rattle.drr.specs.declared.FlowRecord.{FlowRecord}
-use Rattle.drr.specs.Sound.{withinb}
+use Rattle.drr.specs.declared.Table.{Table}
 use Rattle.drr.specs.declared.Refusal.{Refusal}
-use Rattle.drr.specs.State.{tableOf, freshState, emptyTable}
-use Rattle.drr.specs.Answers.{numberOf, fine, refusedAt, reply}
-use Rattle.drr.specs.Setup.{cells, flowsAnswer, setupAnswer, setupReply, recordsFrom}
-use Rattle.drr.proofs.Bools.{or-right}
+use Rattle.drr.specs.Limits.{mostFlows}
+use Rattle.drr.specs.State.{common, tableOf, noFlows}
+use Rattle.drr.specs.Sound.{quantumb, maximumb}
+use Rattle.drr.specs.Answers.{Answer, numberOf, fine, refusedAt}
+use Rattle.drr.specs.Setup.{cells, tableFor, flowsAnswer, setupAnswer, setupTable}
+use Rattle.drr.proofs.Bools.{below?, or-inr}
+use Rattle.drr.proofs.Copies.{drop-past}
 use Rattle.drr.proofs.Papers.{number-some}
+use Rattle.drr.proofs.Tables.{none}
 
-abbrev recordAt : List ℕ → List ℕ → ℕ → FlowRecord
-recordAt qs ms f = record { quantum = getD qs f 0; maximum = getD ms f 0 }
-
-pub from-length : (qs ms : List ℕ) (f c : ℕ) → length (recordsFrom qs ms f c) ≡ c
-from-length qs ms f zero = refl
-from-length qs ms f (suc c) = ap suc (from-length qs ms (f + 1) c)
-
--- ---- the flows from f on, of c in all
-module _ (qs ms : List ℕ) (f c : ℕ) where
+-- ---- the first c of the records, from flow f on
+module _ (rs : List FlowRecord) (c f : ℕ) where
   abbrev rest : List FlowRecord
-  rest = recordsFrom qs ms f (c - f)
+  rest = drop f (take c rs)
 
   pub no-more : c ≤ f → flowsAnswer f rest ≡ fine
-  no-more h = let e : c - f ≡ 0 = omega arith in rw e
+  no-more h = ap (flowsAnswer f) (drop-past (take c rs) f (omega (arith, length-take c rs)))
 
-  module _ (more : f < c) where
-    one-more : c - f ≡ suc (c - (f + 1))
-    one-more = omega arith
+  module _ (inside : c ≤ length rs) (more : f < c) where
+    abbrev here : FlowRecord
+    here = getD rs f none
 
-    pub bad-quantum : withinb 1 65535 (getD qs f 0) ≡ false → flowsAnswer f rest ≡ refusedAt 6 f
+    one-more : rest ≡ here ∷ drop (f + 1) (take c rs)
+    one-more =
+        drop-cons (take c rs) f none (omega (arith, length-take-le c rs inside))
+        ∙ ap (λ (x : FlowRecord). x ∷ drop (suc f) (take c rs)) (getD-take c rs f none more)
+        ∙ ap (λ (k : ℕ). here ∷ drop k (take c rs)) (sym (add-one f))
+
+    pub bad-quantum : quantumb (here .quantum) ≡ false → flowsAnswer f rest ≡ refusedAt 6 f
     bad-quantum h = rw (one-more, h)
 
-    module _ (fine : withinb 1 65535 (getD qs f 0) ≡ true) where
-      pub bad-maximum : withinb 1 9216 (getD ms f 0) ≡ false → flowsAnswer f rest ≡ refusedAt 7 f
-      bad-maximum h = rw (one-more, fine, h)
+    module _ (good : quantumb (here .quantum) ≡ true) where
+      pub bad-maximum : maximumb (here .maximum) ≡ false → flowsAnswer f rest ≡ refusedAt 7 f
+      bad-maximum h = rw (one-more, good, h)
 
-      pub flow-fine : withinb 1 9216 (getD ms f 0) ≡ true → flowsAnswer f rest ≡ flowsAnswer (f + 1) (recordsFrom qs ms (f + 1) (c - (f + 1)))
-      flow-fine h = rw (one-more, fine, h)
+      pub flow-fine : maximumb (here .maximum) ≡ true → flowsAnswer f rest ≡ flowsAnswer (f + 1) (drop (f + 1) (take c rs))
+      flow-fine h = rw (one-more, good, h)
 
--- ---- the cells of the table: xs has the number p of each record
-cells-none : (p : FlowRecord → ℕ) (k : ℕ) → cells p k [] ≡ replicate k 0
-cells-none p zero = refl
-cells-none p (suc k) = ap (λ (r : List ℕ). 0 ∷ r) (cells-none p k)
+-- ---- the cells of the table, one record more
+cells-next : (p : FlowRecord → ℕ) (w i : ℕ) (xs : List FlowRecord) → i < length xs →
+    set (cells p w (take i xs)) i (p (getD xs i none)) ≡ cells p w (take (suc i) xs)
+cells-next p w i [] l = absurd (not-suc-le-zero l)
+cells-next p zero i (x ∷ xs) l = refl
+cells-next p (suc w) zero (x ∷ xs) l = refl
+cells-next p (suc w) (suc i) (x ∷ xs) l = ap (λ (r : List ℕ). p x ∷ r) (cells-next p w i xs (omega (arith, l)))
 
-pub cells-from : (qs ms : List ℕ) (p : FlowRecord → ℕ) (xs : List ℕ) → ((i : ℕ) → p (recordAt qs ms i) ≡ getD xs i 0) →
-    (k f c : ℕ) → c ≤ k → f + c ≤ length xs → cells p k (recordsFrom qs ms f c) ≡ take c (drop f xs) ++ drop c (replicate k 0)
-cells-from qs ms p xs is k f zero h l = cells-none p k
-cells-from qs ms p xs is zero f (suc c) h l = absurd (omega arith)
-cells-from qs ms p xs is (suc k) f (suc c) h l =
-    ap (λ (x : ℕ). x ∷ cells p k (recordsFrom qs ms (f + 1) c)) (is f)
-    ∙ ap (λ (r : List ℕ). getD xs f 0 ∷ r) (cells-from qs ms p xs is k (f + 1) c (omega arith) (omega arith))
-    ∙ ap (λ (g : ℕ). getD xs f 0 ∷ (take c (drop g xs) ++ drop c (replicate k 0))) (add-one f)
-    ∙ sym (ap (λ (r : List ℕ). take (suc c) r ++ drop c (replicate k 0)) (drop-cons xs f 0 (omega arith)))
+pub cells-more : (p : FlowRecord → ℕ) (xs : List FlowRecord) (i : ℕ) (cs : List ℕ) → cs ≡ cells p 16 (take i xs) → i < length xs →
+    set cs i (p (getD xs i none)) ≡ cells p 16 (take (i + 1) xs)
+cells-more p xs i cs is l =
+    ap (λ (k : List ℕ). set k i (p (getD xs i none))) is ∙ cells-next p 16 i xs l
+    ∙ ap (λ (k : ℕ). cells p 16 (take k xs)) (sym (add-one i))
 
-pub tables : {n : ℕ} {qs qs' ms ms' : List ℕ} → qs ≡ qs' → ms ≡ ms' → tableOf n qs ms ≡ tableOf n qs' ms'
-tables {n} p q = λ i. tableOf n (p i) (q i)
+pub table-filled : (xs : List FlowRecord) (c : ℕ) (qs ms : List ℕ) → c ≤ length xs →
+    qs ≡ cells (λ r. r .quantum) 16 (take c xs) → ms ≡ cells (λ r. r .maximum) 16 (take c xs) →
+    tableOf (common c) qs ms ≡ tableFor (take c xs)
+table-filled xs c qs ms inside q m = rw (q, m, length-take-le c xs inside)
 
-pub list-count : (xs : List FlowRecord) → (eqb (length xs) 0 || ltb 16 (length xs)) ≡ true → reply (refusedAt 5 0) emptyTable ≡ setupReply xs
-unfolding setupReply setupAnswer
-list-count xs e = rw e
+-- ---- an answer and a table are setup's
+pub record Gives (xs : List FlowRecord) (a : Answer) (T : Table) : Type 0 where
+  pub answers : a ≡ setupAnswer xs
+  pub makes : T ≡ setupTable xs
 
--- ---- setup of the first c records in two arrays
-module _ (qs ms : List ℕ) (c : ℕ) where
-  abbrev flows : List FlowRecord
-  flows = recordsFrom qs ms 0 c
+module _ (xs : List FlowRecord) where
+  abbrev pub Counted : Bool → Type 0
+  Counted b = (eqb (length xs) 0 || ltb mostFlows (length xs)) ≡ b
 
-  counted : (b : Bool) → (eqb c 0 || ltb 16 c) ≡ b → (eqb (length flows) 0 || ltb 16 (length flows)) ≡ b
-  counted b e = rw (from-length qs ms 0 c) e
+  pub gives-count : Counted true → Gives xs (refusedAt 5 0) noFlows
+  unfolding setupTable setupAnswer
+  gives-count e = record { answers = rw e; makes = rw e }
 
-  pub setup-count : (eqb c 0 || ltb 16 c) ≡ true → reply (refusedAt 5 0) emptyTable ≡ setupReply flows
-  setup-count e = list-count flows (counted true e)
+  pub gives-bad : Counted false → (why : Refusal) (place : ℕ) → refusedAt (numberOf why) place ≡ flowsAnswer 0 xs →
+      Gives xs (refusedAt (numberOf why) place) noFlows
+  unfolding setupTable setupAnswer
+  gives-bad e why place is = record { answers = rw (e, ← is); makes = rw (e, ← is, number-some why) }
 
-  module _ (few : (eqb c 0 || ltb 16 c) ≡ false) where
-    pub setup-bad : (why : Refusal) (place : ℕ) → refusedAt (numberOf why) place ≡ flowsAnswer 0 flows → reply (refusedAt (numberOf why) place) emptyTable ≡ setupReply flows
-    unfolding setupReply setupAnswer
-    setup-bad why place e = rw (counted false few, ← e, number-some why)
+  pub gives-table : Counted false → fine ≡ flowsAnswer 0 xs → Gives xs fine (tableFor xs)
+  unfolding setupTable setupAnswer
+  gives-table e is = record { answers = rw (e, ← is); makes = rw (e, ← is) }
 
-    pub count-most : c ≤ 16
-    count-most = ltb-false 16 c (or-right (eqb c 0) (ltb 16 c) few)
+-- more than sixteen are refused by 5, however many
+pub too-many : (xs : List FlowRecord) → mostFlows < length xs → Gives xs (refusedAt 5 0) noFlows
+too-many xs more = gives-count xs (or-inr (eqb (length xs) 0) (ltb mostFlows (length xs)) (lt-ltb mostFlows (length xs) more))
 
-    pub setup-made : length qs ≡ 16 → length ms ≡ 16 → fine ≡ flowsAnswer 0 flows →
-        reply fine (freshState (tableOf c (take c qs ++ drop c (replicate 16 0)) (take c ms ++ drop c (replicate 16 0)))) ≡ setupReply flows
-    unfolding setupReply setupAnswer
-    setup-made lq lm e =
-        rw (counted false few, ← e, from-length qs ms 0 c, cells-from qs ms (λ r. r .quantum) qs (λ i. refl) 16 0 c count-most (omega (arith, count-most)), cells-from qs ms (λ r. r .maximum) ms (λ i. refl) 16 0 c count-most (omega (arith, count-most)))
+-- the count that the code tests is the list's, of a list of seventeen
+pub counted : (rs : List FlowRecord) (c : ℕ) (b : Bool) → length rs ≡ 17 → (eqb c 0 || ltb mostFlows c) ≡ b → Counted (take c rs) b
+counted rs c b long e = ⊎-elim
+    (λ more. over (length-take c rs) more)
+    (λ few. rw (length-take-le c rs (omega arith)) e)
+    (below? mostFlows c)
+  where
+    over : {k : ℕ} → length (take c rs) ≡ k → mostFlows < c → Counted (take c rs) b
+    over is more =
+        or-inr (eqb (length (take c rs)) 0) (ltb mostFlows (length (take c rs)))
+        (lt-ltb mostFlows (length (take c rs)) (omega (arith, length-take c rs)))
+        ∙ sym (or-inr (eqb c 0) (ltb mostFlows c) (lt-ltb mostFlows c more)) ∙ e

@@ -1,7 +1,9 @@
-// Setup: from a lent list of flow records to a fresh state.
+// Setup: from a list of flow records to a fresh state.
 //
-// `setup` is thin: it copies at most 16 records into arrays, and `setup_of` judges them. Programs and
-// tests call `setup_of` or `setup_first`, whose parameters are plain.
+// `table_of` judges a list and makes its table; a run stands on it, and makes its own line. `setup_of` makes
+// the whole fresh state; programs and other languages call it, since its parameters are plain. `setup` is
+// document 01's form, a lent slice of any length: it is thin, copies the records and calls `setup_of`.
+use drr::FlowList;
 use drr::FlowRecord;
 use drr::Line;
 use drr::Made;
@@ -9,14 +11,15 @@ use drr::Refusal;
 use drr::Row;
 use drr::State;
 use drr::Table;
+use drr::Tabled;
+use drr::Terms;
 use drr::Verdict;
 ghost use mathlib.Core.Path.{_≡_};
-ghost use mathlib.Core.List.{_++_};
 ghost use Prim.Native.Nat.{_-_, _<_, _≤_, min};
-ghost use lib.ListN.{take, drop, replicate};
-ghost use Rattle.drr.specs.State.{freshState, emptyTable};
+ghost use lib.ListN.{take};
+ghost use Rattle.drr.specs.State.{noFlows, freshState};
 ghost use Rattle.drr.specs.Answers.{numberOf, refusedAt, verdictPaper, reply};
-ghost use Rattle.drr.specs.Setup.{recordsFrom, flowsAnswer, setupReply};
+ghost use Rattle.drr.specs.Setup.{tableFor, flowsAnswer, setupAnswer, setupTable, setupReply, recordsIn};
 ghost use Rattle.scheduler.specs.Copying.{startedOf, putOf};
 
 fn last_flow(n: usize) -> usize
@@ -26,7 +29,7 @@ fn last_flow(n: usize) -> usize
 }
 
 // Nothing waits, deficits 0, no visit open, place n-1.
-fn fresh(table: Table) -> State
+pub fn fresh(table: Table) -> State
     ensures { λ r. ⌜ r ≡ freshState table ⌝ }
 {
     let place = last_flow(table.n);
@@ -49,48 +52,55 @@ fn fresh(table: Table) -> State
 }
 
 // A refusal gives the empty table.
-pub fn refused(why: Refusal, place: usize) -> Made
-    ensures { λ r. ⌜ reply (verdictPaper (r .answer)) (r .state) ≡ reply (refusedAt (numberOf why) place) emptyTable ⌝ }
+pub fn refused(why: Refusal, place: usize) -> Tabled
+    ensures { λ r. ⌜ (verdictPaper (r .answer) ≡ refusedAt (numberOf why) place) × (r .table ≡ noFlows) ⌝ }
 {
     let none = Table {
         n: 0,
         quanta: [0u32; 16],
         maxima: [0u32; 16],
     };
-    let state = fresh(none);
-    Made {
+    Tabled {
         answer: Verdict::Refused(why, place),
-        state: state,
+        table: none,
     }
 }
 
-// The first `count` cells, and zeros after them.
-fn first_cells(cells: [u32; 16], count: usize) -> [u32; 16]
+// The table of the first `count` records.
+fn filled(records: [FlowRecord; 17], count: usize) -> Table
     requires { ⌜ count ≤ 16 ⌝ }
-    ensures { λ r. ⌜ r ≡ take count cells ++ drop count (replicate 16 0) ⌝ }
+    ensures { λ r. ⌜ r ≡ tableFor (take count records) ⌝ }
 {
-    let mut out = [0u32; 16];
+    let mut quanta = [0u32; 16];
+    let mut maxima = [0u32; 16];
     let mut f: usize = 0;
     while f < count {
-        out[f] = cells[f];
+        let record = records[f];
+        quanta[f] = record.quantum;
+        maxima[f] = record.maximum;
         f += 1;
     }
-    out
+    Table {
+        n: count,
+        quanta: quanta,
+        maxima: maxima,
+    }
 }
 
 // The first fault, flow by flow, the quantum's before the maximum's.
-fn flows_answer(quanta: &[u32; 16], maxima: &[u32; 16], count: usize) -> Verdict
+fn flows_answer(records: [FlowRecord; 17], count: usize) -> Verdict
     requires { ⌜ count ≤ 16 ⌝ }
-    ensures { λ r. ⌜ verdictPaper r ≡ flowsAnswer 0 (recordsFrom (now (quanta .entry)) (now (maxima .entry)) 0 count) ⌝ }
+    ensures { λ r. ⌜ verdictPaper r ≡ flowsAnswer 0 (take count records) ⌝ }
 {
     let mut f: usize = 0;
     while f < count {
-        let quantum = quanta[f];
-        if !((1 <= quantum) & (quantum <= 65535)) {
+        let record = records[f];
+        let quantum = record.quantum;
+        if !((drr::LEAST_QUANTUM <= quantum) & (quantum <= drr::MOST_QUANTUM)) {
             return Verdict::Refused(Refusal::QuantumRange, f);
         }
-        let maximum = maxima[f];
-        if !((1 <= maximum) & (maximum <= 9216)) {
+        let maximum = record.maximum;
+        if !((drr::LEAST_MAXIMUM <= maximum) & (maximum <= drr::MOST_MAXIMUM)) {
             return Verdict::Refused(Refusal::MaximumRange, f);
         }
         f += 1;
@@ -98,37 +108,46 @@ fn flows_answer(quanta: &[u32; 16], maxima: &[u32; 16], count: usize) -> Verdict
     Verdict::Fine
 }
 
-// Setup of the first `count` flows that stand in the two arrays.
-pub fn setup_of(quanta: [u32; 16], maxima: [u32; 16], count: usize) -> Made
-    ensures { λ r. ⌜ reply (verdictPaper (r .answer)) (r .state) ≡ setupReply (recordsFrom quanta maxima 0 count) ⌝ }
+// Setup's answer on a list, and the table that it makes.
+pub fn table_of(list: FlowList, _terms: Terms) -> Tabled
+    ensures { λ r. ⌜ (verdictPaper (r .answer) ≡ setupAnswer (recordsIn list)) × (r .table ≡ setupTable (recordsIn list)) ⌝ }
 {
-    if (count == 0) | (16 < count) {
+    let records = list.records;
+    let count = list.count;
+    if (count == 0) | (drr::MOST_FLOWS < count) {
         return refused(Refusal::FlowCount, 0);
     }
-    let answer = flows_answer(&quanta, &maxima, count);
+    let answer = flows_answer(records, count);
     if let Verdict::Refused(why, place) = answer {
         return refused(why, place);
     }
-    let used = first_cells(quanta, count);
-    let most = first_cells(maxima, count);
-    let state = fresh(Table {
-        n: count,
-        quanta: used,
-        maxima: most,
-    });
-    Made {
+    let table = filled(records, count);
+    Tabled {
         answer: Verdict::Fine,
+        table: table,
+    }
+}
+
+// Setup of a list as it is carried.
+pub fn setup_of(list: FlowList, terms: Terms) -> Made
+    ensures { λ r. ⌜ reply (verdictPaper (r .answer)) (r .state) ≡ setupReply (recordsIn list) ⌝ }
+{
+    let made = table_of(list, terms);
+    let answer = made.answer;
+    let table = made.table;
+    let state = fresh(table);
+    Made {
+        answer: answer,
         state: state,
     }
 }
 
-// What is copied so far: the next place, how many are to be copied, and how many the list has.
+// What is copied so far, how many are to be copied, and the terms.
 struct Copied {
-    quanta: [u32; 16],
-    maxima: [u32; 16],
+    records: [FlowRecord; 17],
     at: usize,
     todo: usize,
-    count: usize,
+    terms: Terms,
 }
 
 // The smaller of the two.
@@ -138,68 +157,57 @@ fn at_most(count: usize, most: usize) -> usize
     if count < most { count } else { most }
 }
 
-fn started(count: usize) -> Copied
-    ensures { λ r. ⌜ r ≡ startedOf count ⌝ }
+fn started(count: usize, terms: Terms) -> Copied
+    ensures { λ r. ⌜ r ≡ startedOf count terms ⌝ }
 {
-    let todo = at_most(count, 16);
+    let none = FlowRecord {
+        quantum: 0,
+        maximum: 0,
+    };
+    let todo = at_most(count, 17);
     Copied {
-        quanta: [0u32; 16],
-        maxima: [0u32; 16],
+        records: [none; 17],
         at: 0,
         todo: todo,
-        count: count,
+        terms: terms,
     }
 }
 
 fn put(c: Copied, f: FlowRecord) -> Copied
-    requires { ⌜ c .at < 16 ⌝ }
+    requires { ⌜ c .at < 17 ⌝ }
     ensures { λ r. ⌜ r ≡ putOf c f ⌝ }
 {
     let at = c.at;
-    let mut quanta = c.quanta;
-    let mut maxima = c.maxima;
-    quanta[at] = f.quantum;
-    maxima[at] = f.maximum;
+    let mut records = c.records;
+    let terms = c.terms;
+    records[at] = f;
     Copied {
-        quanta: quanta,
-        maxima: maxima,
+        records: records,
         at: at + 1,
         todo: c.todo,
-        count: c.count,
+        terms: terms,
     }
 }
 
 fn finished(c: Copied) -> Made
-    ensures { λ r. ⌜ reply (verdictPaper (r .answer)) (r .state) ≡ setupReply (recordsFrom (c .quanta) (c .maxima) 0 (c .count)) ⌝ }
+    ensures { λ r. ⌜ reply (verdictPaper (r .answer)) (r .state) ≡ setupReply (take (c .at) (c .records)) ⌝ }
 {
-    let quanta = c.quanta;
-    let maxima = c.maxima;
-    setup_of(quanta, maxima, c.count)
+    let records = c.records;
+    let terms = c.terms;
+    let list = FlowList {
+        records: records,
+        count: c.at,
+    };
+    setup_of(list, terms)
 }
 
-// Setup of a lent list of any length.
-pub fn setup(list: &[FlowRecord]) -> Made
+// Setup of a lent list of any length: more than seventeen records are refused as seventeen are.
+pub fn setup(list: &[FlowRecord], terms: Terms) -> Made
     ensures { λ r. ⌜ reply (verdictPaper (r .answer)) (r .state) ≡ setupReply (now (list .entry)) ⌝ }
 {
-    let mut c = started(list.len());
+    let mut c = started(list.len(), terms);
     while c.at < c.todo {
         c = put(c, list[c.at]);
     }
     finished(c)
-}
-
-// The first n records of an array, lent to setup.
-fn setup_part(list: [FlowRecord; 17], n: usize) -> Made
-    requires { ⌜ n ≤ 17 ⌝ }
-    ensures { λ r. ⌜ reply (verdictPaper (r .answer)) (r .state) ≡ setupReply (take n list) ⌝ }
-{
-    setup(&list[..n])
-}
-
-// The first n records of an array, or all 17, lent to setup: one too many can be tried.
-pub fn setup_first(list: [FlowRecord; 17], n: usize) -> Made
-    ensures { λ r. ⌜ reply (verdictPaper (r .answer)) (r .state) ≡ setupReply (take n list) ⌝ }
-{
-    let k = at_most(n, 17);
-    setup_part(list, k)
 }

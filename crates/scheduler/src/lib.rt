@@ -25,7 +25,7 @@ ghost use Rattle.drr.specs.Arrival.{arrivalOf, arrivalReply};
 ghost use Rattle.drr.specs.Computed.{pickOf, pickReply};
 
 // The rows' lengths, as an array of arrays.
-pub fn cells_of(rows: [Row; 16]) -> [[u16; 32]; 16]
+fn cells_of(rows: [Row; 16]) -> [[u16; 32]; 16]
     ensures { λ r. ⌜ r ≡ cellsIn rows ⌝ }
 {
     let mut out = [[0u16; 32]; 16];
@@ -40,7 +40,7 @@ pub fn cells_of(rows: [Row; 16]) -> [[u16; 32]; 16]
 }
 
 // The rows made of their lengths.
-pub fn rows_of(cells: [[u16; 32]; 16]) -> [Row; 16]
+fn rows_of(cells: [[u16; 32]; 16]) -> [Row; 16]
     ensures { λ r. ⌜ r ≡ rowsFrom cells ⌝ }
 {
     let none = Row {
@@ -60,7 +60,7 @@ pub fn rows_of(cells: [[u16; 32]; 16]) -> [Row; 16]
 pub fn sound_line(table: Table, line: Line) -> bool
     ensures { λ r. ⌜ r ≡ soundb table (lineIn line) ⌝ }
 {
-    let n = table.n;
+    let common = drr::common_of(table);
     let quanta = table.quanta;
     let maxima = table.maxima;
     let counts = line.counts;
@@ -71,20 +71,21 @@ pub fn sound_line(table: Table, line: Line) -> bool
         place: line.place,
         opened: line.opened,
     };
-    engine::sound_in(n, &quanta, &maxima, &counts, &deficits, &rows, spot)
+    engine::sound_in(common, &quanta, &maxima, &counts, &deficits, &rows, spot)
 }
 
 // The arrival on a sound line.
-pub fn arrival_line(table: Table, line: Line, flow: usize, length: u32) -> ArrivedLine
+fn arrival_line(table: Table, line: Line, flow: usize, length: u32) -> ArrivedLine
     requires { ⌜ Sound table (lineIn line) ⌝ }
-    ensures { λ r. ⌜ outcome (arrivalPaper (r .answer)) (lineIn (r .line)) ≡ arrivalOf table (lineIn line) flow length ⌝ }
+    ensures { λ r. ⌜
+        outcome (arrivalPaper (r .answer)) (lineIn (r .line)) ≡ arrivalOf table (lineIn line) flow length ⌝ }
 {
-    let n = table.n;
+    let common = drr::common_of(table);
     let maxima = table.maxima;
     let mut counts = line.counts;
     let packed = line.rows;
     let mut rows = cells_of(packed);
-    let answer = engine::book(n, &maxima, &mut counts, &mut rows, flow, length);
+    let answer = engine::book(common, &maxima, &mut counts, &mut rows, flow, length);
     let deficits = line.deficits;
     let back = rows_of(rows);
     ArrivedLine {
@@ -100,11 +101,11 @@ pub fn arrival_line(table: Table, line: Line, flow: usize, length: u32) -> Arriv
 }
 
 // The pick on a sound line.
-pub fn pick_line(table: Table, line: Line) -> PickedLine
+fn pick_line(table: Table, line: Line) -> PickedLine
     requires { ⌜ Sound table (lineIn line) ⌝ }
     ensures { λ r. ⌜ outcome (pickPaper (r .answer)) (lineIn (r .line)) ≡ pickOf table (lineIn line) ⌝ }
 {
-    let n = table.n;
+    let common = drr::common_of(table);
     let quanta = table.quanta;
     let maxima = table.maxima;
     let mut counts = line.counts;
@@ -116,7 +117,7 @@ pub fn pick_line(table: Table, line: Line) -> PickedLine
         opened: line.opened,
     };
     let p = engine::pick_in(
-        n,
+        common,
         &quanta,
         &maxima,
         &mut counts,

@@ -1,3 +1,4 @@
 -- Laws that several functions' proofs cite.
 pub mod Texts
-pub mod Rows
+pub mod Lines
+pub mod Words

@@ -5,7 +5,10 @@ use mathlib.Core.List.{List, [], _∷_, _++_}
 use Prim.Native.Nat.{ℕ, zero, suc, _+_, _-_, _*_, _/_}
 use lib.Dec.{eqb, ltb, leb}
 use lib.ListN.{length, take, drop}
+use lib.Seq.{sets}
 use Rattle.io.specs.Digits.{digits}
+use Rattle.text.specs.declared.Form.{Form}
+use Rattle.text.specs.declared.Form.the-variants.{Line, NoLine}
 use Rattle.text.specs.declared.Word.{Word}
 use Rattle.text.specs.declared.Word.the-variants.{Number, NoNumber}
 
@@ -23,28 +26,42 @@ unfoldable pub decimal : ℕ → List ℕ
 decimal n = digits 10 (places n) n
 
 -- "fields parted by one space": a field with the space before it
-unfoldable pub fieldText : ℕ → List ℕ
+abbrev pub fieldText : ℕ → List ℕ
 fieldText n = 32 ∷ decimal n
 
--- the letter of a line and its first three fields
-unfoldable pub threeText : ℕ → ℕ → ℕ → ℕ → List ℕ
-threeText letter a b c = (letter ∷ []) ++ fieldText a ++ fieldText b ++ fieldText c
+-- fields so, and the newline
+abbrev pub fieldsText : List ℕ → List ℕ
+fieldsText [] = 10 ∷ []
+fieldsText (n ∷ ns) = fieldText n ++ fieldsText ns
 
--- "1, start tick, flow, length, deficit after, visits (printed `S`)"
-abbrev pub sendText : ℕ → ℕ → ℕ → ℕ → ℕ → List ℕ
-sendText tick flow length deficit visits = threeText 83 tick flow length ++ fieldText deficit ++ fieldText visits ++ (10 ∷ [])
+-- a line in its form: the letter, then the first so many of its fields; no text for no form
+abbrev pub formText : Form → List ℕ → List ℕ
+formText (Line letter count) fields = letter ∷ fieldsText (take count fields)
+formText NoLine fields = []
 
--- "2, the event's tick, flow, length, refusal number, 0 (printed `D`, last 0 left out)"
-abbrev pub dropText : ℕ → ℕ → ℕ → ℕ → List ℕ
-dropText tick flow length refusal = threeText 68 tick flow length ++ fieldText refusal ++ (10 ∷ [])
+-- how many fields a form prints
+abbrev pub fieldsIn : Form → ℕ
+fieldsIn (Line letter count) = count
+fieldsIn NoLine = 0
 
--- "3, tick when the line fell free, packets sent, events refused, 0, 0 (printed `E`, zeros left out)"
-abbrev pub endText : ℕ → ℕ → ℕ → List ℕ
-endText tick sent refused = threeText 69 tick sent refused ++ (10 ∷ [])
+-- the lines of a listing, one entry each: the kind, and as its form the letter and how many of the five fields are printed
+unfoldable pub kinds : List (ℕ × Form)
+kinds =
+    -- "1, start tick, flow, length, deficit after, visits (printed `S`)"
+    (1, Line 83 5) ∷
+    -- "2, the event's tick, flow, length, refusal number, 0 (printed `D`, last 0 left out)"
+    (2, Line 68 4) ∷
+    -- "3, tick when the line fell free, packets sent, events refused, 0, 0 (printed `E`, zeros left out)"
+    (3, Line 69 3) ∷ []
 
--- "prints one line each": the six numbers of a line by the first of them; no text for a first number other than 1, 2 and 3, which no listing has
-unfoldable pub lineText : ℕ → ℕ → ℕ → ℕ → ℕ → ℕ → List ℕ
-lineText kind a b c d e = cond (eqb kind 1) (sendText a b c d e) (cond (eqb kind 2) (dropText a b c d) (cond (eqb kind 3) (endText a b c) []))
+-- the form of a kind by such a table; none for a kind that it does not have
+abbrev pub formIn : List (ℕ × Form) → ℕ → Form
+formIn [] kind = NoLine
+formIn (entry ∷ more) kind = cond (eqb kind (entry .0)) (entry .1) (formIn more kind)
+
+-- "prints one line each": the text of a line by its kind and its five fields; none for a kind that no listing has
+unfoldable pub lineText : ℕ → List ℕ → List ℕ
+lineText kind five = formText (formIn kinds kind) five
 
 -- "six 64-bit numbers a line", line after line, up to and with line 3; fewer than six numbers at the end give nothing
 unfoldable pub listingText : List ℕ → List ℕ
@@ -54,13 +71,19 @@ listingText (k ∷ a ∷ []) = []
 listingText (k ∷ a ∷ b ∷ []) = []
 listingText (k ∷ a ∷ b ∷ c ∷ []) = []
 listingText (k ∷ a ∷ b ∷ c ∷ d ∷ []) = []
-listingText (k ∷ a ∷ b ∷ c ∷ d ∷ e ∷ more) = lineText k a b c d e ++ cond (eqb k 3) [] (listingText more)
+listingText (k ∷ a ∷ b ∷ c ∷ d ∷ e ∷ more) = lineText k (a ∷ b ∷ c ∷ d ∷ e ∷ []) ++ cond (eqb k 3) [] (listingText more)
 
 -- "for a refused file one line `R number place`"
-unfoldable pub refusalText : ℕ → ℕ → List ℕ
-refusalText number place = (82 ∷ []) ++ fieldText number ++ fieldText place ++ (10 ∷ [])
+abbrev pub refusalText : ℕ → ℕ → List ℕ
+refusalText number place = formText (Line 82 2) (number ∷ place ∷ [])
 
--- what is written into a buffer of this many bytes: nothing, where it has fewer than 18 for each number of the list, which is room for any listing
+-- numbers alone, as `drrfigures` prints them: parted by one space, a newline at the end; no text for no number
+abbrev pub numbersText : List ℕ → List ℕ
+numbersText [] = []
+numbersText (n ∷ ns) = decimal n ++ fieldsText ns
+
+-- what is written into a buffer of this many bytes: nothing, where it has fewer than 18 for each number of the list,
+-- which is room for any listing
 unfoldable pub listingWithin : List ℕ → ℕ → List ℕ
 listingWithin list room = cond (ltb (room / 18) (length list)) [] (listingText list)
 
@@ -68,27 +91,17 @@ listingWithin list room = cond (ltb (room / 18) (length list)) [] (listingText l
 unfoldable pub refusalWithin : ℕ → ℕ → ℕ → List ℕ
 refusalWithin number place room = cond (ltb room 44) [] (refusalText number place)
 
--- a buffer with the text v in the place of as many bytes from `at` on
-abbrev pub placed : List ℕ → ℕ → List ℕ → List ℕ
-placed b at v = take at b ++ v ++ drop (at + length v) b
+-- .. nothing, where it has fewer than 21 for each number, which is room for any numbers
+unfoldable pub numbersWithin : List ℕ → ℕ → List ℕ
+numbersWithin list room = cond (ltb (room / 21) (length list)) [] (numbersText list)
 
--- the text v is put at `at`: what the buffer is then, and where the text ends
+-- a buffer with this text at its start, and what follows as it was
+abbrev pub overlaid : List ℕ → List ℕ → List ℕ
+overlaid text b = text ++ drop (length text) b
+
+-- the text v is put at `at`, byte after byte: what the buffer is then, and where the text ends
 abbrev pub Put : List ℕ → ℕ → List ℕ → List ℕ → ℕ → Type 0
-Put b at v b' end = (b' ≡ placed b at v) × (end ≡ at + length v)
-
--- ---- a row of numbers, as `drrfigures` prints it: fields parted by one space, a newline at the end
-abbrev pub fieldsText : List ℕ → List ℕ
-fieldsText [] = 10 ∷ []
-fieldsText (n ∷ ns) = fieldText n ++ fieldsText ns
-
--- no text for no number
-abbrev pub rowText : List ℕ → List ℕ
-rowText [] = []
-rowText (n ∷ ns) = decimal n ++ fieldsText ns
-
--- .. nothing, where it has fewer than 21 for each number, which is room for any row
-unfoldable pub rowWithin : List ℕ → ℕ → List ℕ
-rowWithin list room = cond (ltb (room / 21) (length list)) [] (rowText list)
+Put b at v b' end = (b' ≡ sets b at v) × (end ≡ at + length v)
 
 -- ---- a number as a word: decimal digits alone, at least one, and no more than 32 bits
 -- the digits from here on, where those before them gave n

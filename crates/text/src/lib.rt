@@ -1,15 +1,16 @@
-// A listing and a refusal as text, into a lent buffer of bytes.
+// A listing, a refusal and numbers as text, into a lent buffer of bytes; a number read from a word.
 ghost use mathlib.Core.Path.{_≡_};
-ghost use mathlib.Core.List.{_++_, _∷_, []};
-ghost use Prim.Native.Nat.{_+_, _-_, _*_, _≤_};
-ghost use lib.ListN.{length, drop};
+ghost use Prim.Native.Nat.{_+_, _-_, _≤_};
+ghost use lib.ListN.{length};
+ghost use lib.Seq.{sets};
 ghost use Rattle.io.specs.Digits.{digits};
-ghost use Rattle.text.specs.Text.{decimal, fieldText, threeText, sendText, dropText, endText, lineText, listingText, listingWithin, refusalWithin, fieldsText, rowText, rowWithin, wordOf, placed, Put};
+ghost use Rattle.text.specs.Text.{decimal, fieldsText, formText, fieldsIn, kinds, formIn, listingText};
+ghost use Rattle.text.specs.Text.{listingWithin, refusalWithin, numbersWithin, overlaid, Put, wordOf};
 ghost use Rattle.text.specs.Text.{places as Text·places};
 
 // How many digits a number has.
 fn places(n: u64) -> usize
-    ensures { λ r. ⌜ (r ≡ Text·places n) × (r ≤ 20) ⌝ }
+    ensures { λ r. ⌜ r ≡ Text·places n ⌝ }
 {
     let mut k: usize = 1;
     let mut rest = n / 10;
@@ -26,7 +27,7 @@ fn places(n: u64) -> usize
 // The last k digits of a number, from `at` on.
 fn spell(buf: &mut [u8], at: usize, k: usize, n: u64)
     requires { ⌜ at + k ≤ length (now buf) ⌝ }
-    ensures { λ _. ⌜ now (buf .exit) ≡ placed (now (buf .entry)) at (digits 10 k n) ⌝ }
+    ensures { λ _. ⌜ now (buf .exit) ≡ sets (now (buf .entry)) at (digits 10 k n) ⌝ }
 {
     let mut i = k;
     let mut rest = n;
@@ -37,111 +38,78 @@ fn spell(buf: &mut [u8], at: usize, k: usize, n: u64)
     }
 }
 
-// One byte. This and the next functions answer where their text ends.
-fn put(buf: &mut [u8], at: usize, byte: u8) -> usize
-    requires { ⌜ at + 1 ≤ length (now buf) ⌝ }
-    ensures { λ r. ⌜ Put (now (buf .entry)) at (byte ∷ []) (now (buf .exit)) r ⌝ }
-{
-    buf[at] = byte;
-    at + 1
-}
-
-// A number in decimal.
+// A number in decimal. This and the next functions ask for the room that their text takes, and answer
+// where it ends.
 fn put_number(buf: &mut [u8], at: usize, n: u64) -> usize
-    requires { ⌜ at + 20 ≤ length (now buf) ⌝ }
-    ensures { λ r. ⌜ Put (now (buf .entry)) at (decimal n) (now (buf .exit)) r × (r ≤ at + 20) ⌝ }
+    requires { ⌜ at + length (decimal n) ≤ length (now buf) ⌝ }
+    ensures { λ r. ⌜ Put (now (buf .entry)) at (decimal n) (now (buf .exit)) r ⌝ }
 {
     let k = places(n);
     spell(buf, at, k, n);
     at + k
 }
 
-// A space and a number.
-fn put_field(buf: &mut [u8], at: usize, n: u64) -> usize
-    requires { ⌜ at + 21 ≤ length (now buf) ⌝ }
-    ensures { λ r. ⌜ Put (now (buf .entry)) at (fieldText n) (now (buf .exit)) r × (r ≤ at + 21) ⌝ }
+// Numbers, each with the space before it, and the newline.
+fn put_fields(fields: &[u64], buf: &mut [u8], start: usize) -> usize
+    requires { ⌜ start + length (fieldsText (now fields)) ≤ length (now buf) ⌝ }
+    ensures { λ r. ⌜ Put (now (buf .entry)) start (fieldsText (now (fields .entry))) (now (buf .exit)) r ⌝ }
 {
-    let next = put(buf, at, 32);
-    put_number(buf, next, n)
-}
-
-// A letter and three numbers.
-fn put_three(buf: &mut [u8], at: usize, letter: u8, a: u64, b: u64, c: u64) -> usize
-    requires { ⌜ at + 64 ≤ length (now buf) ⌝ }
-    ensures { λ r. ⌜ Put (now (buf .entry)) at (threeText letter a b c) (now (buf .exit)) r × (r ≤ at + 64) ⌝ }
-{
-    let first = put(buf, at, letter);
-    let second = put_field(buf, first, a);
-    let third = put_field(buf, second, b);
-    put_field(buf, third, c)
-}
-
-// The line of a packet sent.
-fn put_send(buf: &mut [u8], at: usize, a: u64, b: u64, c: u64, d: u64, e: u64) -> usize
-    requires { ⌜ at + 108 ≤ length (now buf) ⌝ }
-    ensures { λ r. ⌜ Put (now (buf .entry)) at (sendText a b c d e) (now (buf .exit)) r × (r ≤ at + 108) ⌝ }
-{
-    let fourth = put_three(buf, at, 83, a, b, c);
-    let fifth = put_field(buf, fourth, d);
-    let end = put_field(buf, fifth, e);
-    put(buf, end, 10)
-}
-
-// The line of an event refused.
-fn put_drop(buf: &mut [u8], at: usize, a: u64, b: u64, c: u64, d: u64) -> usize
-    requires { ⌜ at + 108 ≤ length (now buf) ⌝ }
-    ensures { λ r. ⌜ Put (now (buf .entry)) at (dropText a b c d) (now (buf .exit)) r × (r ≤ at + 108) ⌝ }
-{
-    let fourth = put_three(buf, at, 68, a, b, c);
-    let end = put_field(buf, fourth, d);
-    put(buf, end, 10)
-}
-
-// Line 3.
-fn put_end(buf: &mut [u8], at: usize, a: u64, b: u64, c: u64) -> usize
-    requires { ⌜ at + 108 ≤ length (now buf) ⌝ }
-    ensures { λ r. ⌜ Put (now (buf .entry)) at (endText a b c) (now (buf .exit)) r × (r ≤ at + 108) ⌝ }
-{
-    let end = put_three(buf, at, 69, a, b, c);
-    put(buf, end, 10)
-}
-
-// The line of six numbers.
-fn put_text(buf: &mut [u8], at: usize, kind: u64, a: u64, b: u64, c: u64, d: u64, e: u64) -> usize
-    requires { ⌜ at + 108 ≤ length (now buf) ⌝ }
-    ensures { λ r. ⌜ Put (now (buf .entry)) at (lineText kind a b c d e) (now (buf .exit)) r × (r ≤ at + 108) ⌝ }
-{
-    if kind == 1 {
-        return put_send(buf, at, a, b, c, d, e);
+    let mut at = start;
+    let mut done: usize = 0;
+    while done < fields.len() {
+        buf[at] = b' ';
+        at = put_number(buf, at + 1, fields[done]);
+        done += 1;
     }
-    if kind == 2 {
-        return put_drop(buf, at, a, b, c, d);
+    buf[at] = b'\n';
+    at + 1
+}
+
+// How a line is printed: a letter and the first so many of its fields, or not at all.
+enum Form {
+    Line(u8, usize),
+    NoLine,
+}
+
+// A line in its form.
+fn put_line(form: Form, fields: &[u64], buf: &mut [u8], at: usize) -> usize
+    requires { ⌜ fieldsIn form ≤ length (now fields) ⌝ }
+    requires { ⌜ at + length (formText form (now fields)) ≤ length (now buf) ⌝ }
+    ensures { λ r. ⌜ Put (now (buf .entry)) at (formText form (now (fields .entry))) (now (buf .exit)) r ⌝ }
+{
+    let Form::Line(letter, count) = form else {
+        return at;
+    };
+    buf[at] = letter;
+    put_fields(&fields[..count], buf, at + 1)
+}
+
+// The table of a listing's lines, by their kind.
+fn form_of(kind: u64) -> Form
+    ensures { λ r. ⌜ r ≡ formIn kinds kind ⌝ }
+{
+    match kind {
+        1 => Form::Line(b'S', 5),
+        2 => Form::Line(b'D', 4),
+        3 => Form::Line(b'E', 3),
+        _ => Form::NoLine,
     }
-    if kind == 3 {
-        return put_end(buf, at, a, b, c);
-    }
-    at
 }
 
 // Line after line, up to and with line 3.
 fn put_lines(list: &[u64], buf: &mut [u8]) -> usize
-    requires { ⌜ 18 * length (now list) ≤ length (now buf) ⌝ }
+    requires { ⌜ length (listingText (now list)) ≤ length (now buf) ⌝ }
     ensures { λ r. ⌜ Put (now (buf .entry)) 0 (listingText (now (list .entry))) (now (buf .exit)) r ⌝ }
 {
     let mut at: usize = 0;
-    let mut i: usize = 0;
-    while 6 <= list.len() - i {
-        let kind = list[i];
-        let a = list[i + 1];
-        let b = list[i + 2];
-        let c = list[i + 3];
-        let d = list[i + 4];
-        let e = list[i + 5];
-        at = put_text(buf, at, kind, a, b, c, d, e);
+    let mut rest = list;
+    while 6 <= rest.len() {
+        let kind = rest[0];
+        at = put_line(form_of(kind), &rest[1..6], buf, at);
         if kind == 3 {
             return at;
         }
-        i += 6;
+        rest = &rest[6..];
     }
     at
 }
@@ -150,7 +118,8 @@ fn put_lines(list: &[u64], buf: &mut [u8]) -> usize
 // the buffer has fewer than 18 bytes for each number.
 pub fn listing_text(list: &[u64], buf: &mut [u8]) -> usize
     ensures { λ r. ⌜ r ≡ length (listingWithin (now (list .entry)) (length (now (buf .entry)))) ⌝ }
-    ensures { λ r. ⌜ now (buf .exit) ≡ listingWithin (now (list .entry)) (length (now (buf .entry))) ++ drop (length (listingWithin (now (list .entry)) (length (now (buf .entry))))) (now (buf .entry)) ⌝ }
+    ensures { λ r. ⌜ now (buf .exit) ≡
+        overlaid (listingWithin (now (list .entry)) (length (now (buf .entry)))) (now (buf .entry)) ⌝ }
 {
     if buf.len() / 18 < list.len() {
         return 0;
@@ -162,47 +131,22 @@ pub fn listing_text(list: &[u64], buf: &mut [u8]) -> usize
 // nothing, and 0, where the buffer has fewer.
 pub fn refusal_text(number: u64, place: u64, buf: &mut [u8]) -> usize
     ensures { λ r. ⌜ r ≡ length (refusalWithin number place (length (now (buf .entry)))) ⌝ }
-    ensures { λ r. ⌜ now (buf .exit) ≡ refusalWithin number place (length (now (buf .entry))) ++ drop (length (refusalWithin number place (length (now (buf .entry))))) (now (buf .entry)) ⌝ }
+    ensures { λ r. ⌜ now (buf .exit) ≡
+        overlaid (refusalWithin number place (length (now (buf .entry)))) (now (buf .entry)) ⌝ }
 {
     if buf.len() < 44 {
         return 0;
     }
-    let first = put(buf, 0, 82);
-    let second = put_field(buf, first, number);
-    let end = put_field(buf, second, place);
-    put(buf, end, 10)
+    let fields = [number, place];
+    put_line(Form::Line(b'R', 2), &fields, buf, 0)
 }
 
-// The numbers of a row after its first, each with the space before it, and the newline.
-fn put_fields(list: &[u64], buf: &mut [u8], start: usize) -> usize
-    requires { ⌜ start + 21 * length (now list) ≤ length (now buf) + 20 ⌝ }
-    requires { ⌜ 1 ≤ length (now list) ⌝ }
-    ensures { λ r. ⌜ Put (now (buf .entry)) start (fieldsText (drop 1 (now (list .entry)))) (now (buf .exit)) r ⌝ }
-{
-    let mut at = start;
-    let mut i: usize = 1;
-    while i < list.len() {
-        at = put_field(buf, at, list[i]);
-        i += 1;
-    }
-    put(buf, at, 10)
-}
-
-// A row of at least one number.
-fn put_row(list: &[u64], buf: &mut [u8]) -> usize
-    requires { ⌜ 21 * length (now list) ≤ length (now buf) ⌝ }
-    requires { ⌜ 1 ≤ length (now list) ⌝ }
-    ensures { λ r. ⌜ Put (now (buf .entry)) 0 (rowText (now (list .entry))) (now (buf .exit)) r ⌝ }
-{
-    let at = put_number(buf, 0, list[0]);
-    put_fields(list, buf, at)
-}
-
-// The text of a row of numbers at the start of a lent buffer, and how many bytes it has; nothing, and 0,
+// The text of numbers alone at the start of a lent buffer, and how many bytes it has; nothing, and 0,
 // where the buffer has fewer than 21 bytes for each number.
-pub fn row_text(list: &[u64], buf: &mut [u8]) -> usize
-    ensures { λ r. ⌜ r ≡ length (rowWithin (now (list .entry)) (length (now (buf .entry)))) ⌝ }
-    ensures { λ r. ⌜ now (buf .exit) ≡ rowWithin (now (list .entry)) (length (now (buf .entry))) ++ drop (length (rowWithin (now (list .entry)) (length (now (buf .entry))))) (now (buf .entry)) ⌝ }
+pub fn numbers_text(list: &[u64], buf: &mut [u8]) -> usize
+    ensures { λ r. ⌜ r ≡ length (numbersWithin (now (list .entry)) (length (now (buf .entry)))) ⌝ }
+    ensures { λ r. ⌜ now (buf .exit) ≡
+        overlaid (numbersWithin (now (list .entry)) (length (now (buf .entry)))) (now (buf .entry)) ⌝ }
 {
     if buf.len() / 21 < list.len() {
         return 0;
@@ -210,7 +154,8 @@ pub fn row_text(list: &[u64], buf: &mut [u8]) -> usize
     if list.len() == 0 {
         return 0;
     }
-    put_row(list, buf)
+    let at = put_number(buf, 0, list[0]);
+    put_fields(&list[1..], buf, at)
 }
 
 // What a word says: a number of 32 bits, or none.

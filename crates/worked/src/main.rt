@@ -5,18 +5,12 @@
 // `= deficit deficit deficit`, those of the three flows; `R refusal place` for a refused setup. The ticks
 // of the run are left out: the calls stand in its order.
 use drr::ArrivalAnswer;
+use drr::FlowList;
 use drr::FlowRecord;
 use drr::PickAnswer;
 use drr::State;
+use drr::Terms;
 use drr::Verdict;
-
-fn wide(x: u32) -> u64 {
-    x as u64
-}
-
-fn number(x: usize) -> u64 {
-    x as u64
-}
 
 fn field(x: u64) {
     io::write_all(1, b" ");
@@ -29,9 +23,9 @@ fn end() {
 
 fn show(deficits: [u32; 16]) {
     io::write_all(1, b"=");
-    field(wide(deficits[0]));
-    field(wide(deficits[1]));
-    field(wide(deficits[2]));
+    field(widths::u64_of_u32(deficits[0]));
+    field(widths::u64_of_u32(deficits[1]));
+    field(widths::u64_of_u32(deficits[2]));
     end();
 }
 
@@ -41,15 +35,15 @@ fn arrive(s: State, flow: usize, length: u32) -> State {
     match answer {
         ArrivalAnswer::Accepted => {
             io::write_all(1, b"A");
-            field(number(flow));
-            field(wide(length));
+            field(widths::u64_of_usize(flow));
+            field(widths::u64_of_u32(length));
             end();
         }
         ArrivalAnswer::Refused(why) => {
             io::write_all(1, b"D");
-            field(number(flow));
-            field(wide(length));
-            field(wide(drr::refusal_number(why)));
+            field(widths::u64_of_usize(flow));
+            field(widths::u64_of_u32(length));
+            field(widths::u64_of_u32(drr::refusal_number(why)));
             end();
         }
     }
@@ -65,15 +59,15 @@ fn take(s: State) -> State {
         }
         PickAnswer::Sent(flow, length, deficit, visits) => {
             io::write_all(1, b"S");
-            field(number(flow));
-            field(wide(length));
-            field(wide(deficit));
-            field(wide(visits));
+            field(widths::u64_of_usize(flow));
+            field(widths::u64_of_u32(length));
+            field(widths::u64_of_u32(deficit));
+            field(widths::u64_of_u32(visits));
             end();
         }
         PickAnswer::Refused(why) => {
             io::write_all(1, b"R");
-            field(wide(drr::refusal_number(why)));
+            field(widths::u64_of_u32(drr::refusal_number(why)));
             end();
         }
     }
@@ -113,12 +107,18 @@ fn main() {
         quantum: 400,
         maximum: 600,
     };
-    let m = scheduler::flows::setup_first(list, 3);
+    let m = scheduler::flows::setup_of(
+        FlowList {
+            records: list,
+            count: 3,
+        },
+        Terms {},
+    );
     let answer = m.answer;
     if let Verdict::Refused(why, place) = answer {
         io::write_all(1, b"R");
-        field(wide(drr::refusal_number(why)));
-        field(number(place));
+        field(widths::u64_of_u32(drr::refusal_number(why)));
+        field(widths::u64_of_usize(place));
         end();
         return;
     }

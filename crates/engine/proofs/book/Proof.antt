@@ -30,7 +30,8 @@ cast-rows : tie.Need-cast-rows
 cast-rows c =
     let i = c .before .before in
     let e = i .before .before in
-    omega (arith, e .before .before .pre .maxima-most (e .before .before .args .flow) (e .before .if1 .left), i .if3 .left)
+    let s = e .before .before .before in
+    omega (arith, s .pre .maxima-most (s .args .flow) (e .before .if1 .left), i .if3 .left)
 
 returns-5 : tie.Need-returns-5
 unfolding arrivalOf

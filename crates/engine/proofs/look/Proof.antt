@@ -6,26 +6,29 @@ use native.Mathlib.Omega.{arith}
 use borrow.Author.Needs.{needs}
 use Rattle.drr.specs.declared.Table.{Table}
 use Rattle.drr.specs.declared.Found.the-variants.{At}
-use Rattle.drr.specs.State.{Line, tableOf, lineOf, quantumOf, deficitOf, due}
+use Rattle.drr.specs.Limits.{mostFlows, mostMaxima}
+use Rattle.drr.specs.State.{Line, common, tableOf, lineOf, spotAt, quantumOf, deficitOf, oldestCharge}
 use Rattle.drr.specs.Pick.{next}
 use Rattle.drr.proofs.Steps.{sound-place}
-use Rattle.drr.proofs.Visits.{total, most}
-use Rattle.engine.proofs.Loop.{Along, along-first, along-idles, along-on, along-falls, along-sends, room, flow-low, fits, sendable}
+use Rattle.drr.proofs.Sums.{sumOf}
+use Rattle.engine.proofs.Loop.{Along, along-first, along-idles, along-on, along-falls, along-sends}
+use Rattle.engine.proofs.Loop.{room, flow-low, fits, sendable}
 use Rattle.engine.proofs.look.Statement.{statement}
 use Rattle.engine.proofs.look.Tie as tie
 
 -- the line in the arrays between two visits
 abbrev between : List ℕ → List ℕ → List (List ℕ) → ℕ → Line
-between counts deficits rows place = lineOf counts deficits rows (record { place = place; opened = false })
+between counts deficits rows place = lineOf counts deficits rows (spotAt place false)
 
 abbrev Inv-loop : tie.InvT-loop
-Inv-loop n quanta maxima counts₀ deficits₀ rows₀ start place₀ visits₀ counts deficits rows place visits =
-    Along (tableOf n quanta maxima) (between counts₀ deficits₀ rows₀ start) (between counts deficits rows place) visits
+Inv-loop quanta maxima counts₀ deficits₀ rows₀ start n place₀ visits₀ counts deficits rows place visits =
+    Along (tableOf (common n) quanta maxima) (between counts₀ deficits₀ rows₀ start) (between counts deficits rows place) visits
 
 abbrev μ-loop : tie.MeasureT-loop
-μ-loop n quanta maxima counts₀ deficits₀ rows₀ start place₀ visits₀ counts deficits rows place visits = most - total deficits
+μ-loop quanta maxima counts₀ deficits₀ rows₀ start n place₀ visits₀ counts deficits rows place visits =
+    mostMaxima - sumOf deficits
 
-place-low : (a : tie.At-loop Inv-loop μ-loop) → a .loop .place < 16
+place-low : (a : tie.At-loop Inv-loop μ-loop) → a .loop .place < mostFlows
 place-low a = sound-place (a .loop .inv .sound)
 
 loop-holds : tie.Need-loop-holds Inv-loop μ-loop
@@ -37,7 +40,7 @@ module _ (k : tie.After-known-told Inv-loop μ-loop) where
   A = k .before .before .before .before .before
 
   abbrev T : Table
-  T = tableOf (A .before .args .n) (A .before .args .quanta .now) (A .before .args .maxima .now)
+  T = tableOf (A .before .args .common) (A .before .args .quanta .now) (A .before .args .maxima .now)
 
   abbrev S : Line
   S = between (A .before .args .counts .now) (A .before .args .deficits .now) (A .before .args .rows .now) (A .before .args .start)
@@ -51,26 +54,35 @@ module _ (k : tie.After-known-told Inv-loop μ-loop) where
   at-flow : next T L ≡ At F
   at-flow = sym (k .before .before .before .next-waiting .ensures) ∙ k .before .found .given .1
 
-  low : F < 16
+  low : F < mostFlows
   low = flow-low T S L (A .loop .visits) (A .loop .inv) refl F at-flow
 
   fitting : deficitOf L F + quantumOf T F < 1000000
   fitting = fits T S L (A .loop .visits) (A .loop .inv) refl F at-flow
 
+  -- what its oldest packet is charged, and its deficit with the quantum
+  abbrev cost : ℕ
+  cost = oldestCharge L F
+
+  abbrev grown : ℕ
+  grown = deficitOf L F + quantumOf T F
+
 -- the branches of the visit: the packet is sent, or the visit passes
 abbrev K : tie.After-charge-of Inv-loop μ-loop → tie.After-known-told Inv-loop μ-loop
 K g = g .before .before
 
-enough : (e : tie.Then1 Inv-loop μ-loop) → due (L (K (e .before .before .before))) (F (K (e .before .before .before))) ≤ deficitOf (L (K (e .before .before .before))) (F (K (e .before .before .before))) + quantumOf (T (K (e .before .before .before))) (F (K (e .before .before .before)))
+enough : (e : tie.Then1 Inv-loop μ-loop) → let k = K (e .before .before .before) in cost k ≤ grown k
 enough e = rw (e .before .before .before .charge-of .ensures) at (e .if1 .taken)
 
-short : (e : tie.Else1 Inv-loop μ-loop) → deficitOf (L (K (e .before .before .before))) (F (K (e .before .before .before))) + quantumOf (T (K (e .before .before .before))) (F (K (e .before .before .before))) < due (L (K (e .before .before .before))) (F (K (e .before .before .before)))
+short : (e : tie.Else1 Inv-loop μ-loop) → let k = K (e .before .before .before) in grown k < cost k
 short e = rw (e .before .before .before .charge-of .ensures) at (e .if1 .left)
 
 returns : tie.Need-returns Inv-loop μ-loop
 returns c =
     let a = c .before .before .before .before in
-    along-idles (tableOf (a .before .args .n) (a .before .args .quanta .now) (a .before .args .maxima .now)) _ (between (a .loop .counts) (a .loop .deficits) (a .loop .rows) (a .loop .place)) (a .loop .visits) (a .loop .inv) refl
+    let i = a .before .args in
+    along-idles (tableOf (i .common) (i .quanta .now) (i .maxima .now)) _
+    (between (a .loop .counts) (a .loop .deficits) (a .loop .rows) (a .loop .place)) (a .loop .visits) (a .loop .inv) refl
     (sym (c .before .before .next-waiting .ensures) ∙ c .enum-told .given .1)
 
 send-requires : tie.Need-send-requires Inv-loop μ-loop

@@ -32,8 +32,11 @@ loop-again c =
     let a = c .before .before .before .before .before .args in
     let l = c .before .before .before .before .loop in
     let e = c .before .before .after-flow .ensures in
-    let none : getD (a .counts .now) (after (a .n) (l .f)) 0 ≤ 0 = rw e at (c .if1 .left) in
-    (low (c .before .before), l .inv .1 ∙ first-on (a .n) (a .counts .now) (l .left) (l .f) (search needs) none ∙ ap (firstOf (a .n) (a .counts .now) (l .left - 1)) (sym e))
+    let none : getD (a .counts .now) (after (a .n) (l .f)) 0 ≤ 0 = rw e at (c .if1 .left) in (
+      low (c .before .before),
+      l .inv .1 ∙ first-on (a .n) (a .counts .now) (l .left) (l .f) (search needs) none
+          ∙ ap (firstOf (a .n) (a .counts .now) (l .left - 1)) (sym e),
+    )
 
 returns-2 : tie.Need-returns-2 Inv-loop μ-loop
 returns-2 c =

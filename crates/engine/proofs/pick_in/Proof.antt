@@ -1,10 +1,10 @@
-use mathlib.Core.Path.{_≡_, _∙_}
+use mathlib.Core.Path.{_∙_}
 use mathlib.Core.Logic.{⊎-elim}
-use Prim.Native.Nat.{_≤_, _<_}
+use Prim.Native.Nat.{ℕ, _≤_, _<_}
 use native.Mathlib.Omega.{arith}
 use borrow.Author.Needs.{needs}
 use Rattle.drr.specs.declared.Table.{Table}
-use Rattle.drr.specs.State.{Line, tableOf, lineOf, deficitOf, due}
+use Rattle.drr.specs.State.{Line, tableOf, lineOf, deficitOf, oldestCharge}
 use Rattle.drr.proofs.Steps.{sound-place}
 use Rattle.engine.proofs.Loop.{Ends, starts-shut, stops-short, stops-empty, ready, goes}
 use Rattle.engine.proofs.pick_in.Statement.{statement}
@@ -12,7 +12,7 @@ use Rattle.engine.proofs.pick_in.Tie as tie
 
 module _ (c : tie.Start) where
   abbrev T : Table
-  T = tableOf (c .args .n) (c .args .quanta .now) (c .args .maxima .now)
+  T = tableOf (c .args .common) (c .args .quanta .now) (c .args .maxima .now)
 
   abbrev S : Line
   S = lineOf (c .args .counts .now) (c .args .deficits .now) (c .args .rows .now) (c .args .spot)
@@ -45,20 +45,23 @@ module _ (e : tie.Then3) where
   abbrev O : tie.Then1
   O = I .before .before
 
-  enough : G .charge-of .result ≡ due (S (O .before)) (S (O .before) .place) → due (S (O .before)) (S (O .before) .place) ≤ deficitOf (S (O .before)) (S (O .before) .place)
-  enough is = rw is at (e .if3 .taken)
+  abbrev at-place : (Line → ℕ → ℕ) → ℕ
+  at-place p = p (S (O .before)) (S (O .before) .place)
+
+  enough : at-place oldestCharge ≤ at-place deficitOf
+  enough = rw (G .charge-of .ensures) at (e .if3 .taken)
 
 send-requires : tie.Need-send-requires
 send-requires c κs =
     let e = c .before .before .before in
     let s = O e .before in
-    ready (T s) (S s) (s .pre) (O e .if1 .taken) (I e .if2 .taken) (enough e (G e .charge-of .ensures))
+    ready (T s) (S s) (s .pre) (O e .if1 .taken) (I e .if2 .taken) (enough e)
 
 returns : tie.Need-returns
 returns c =
     let e = c .before .before .before .before in
     let s = O e .before in
-    c .send .ensures ∙ goes (T s) (S s) (s .pre) (O e .if1 .taken) (I e .if2 .taken) (enough e (G e .charge-of .ensures))
+    c .send .ensures ∙ goes (T s) (S s) (s .pre) (O e .if1 .taken) (I e .if2 .taken) (enough e)
 
 look-requires : tie.Need-look-requires
 look-requires c κs = ends (c .before .before .before) .sound

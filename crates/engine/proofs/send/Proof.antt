@@ -8,7 +8,8 @@ returns : tie.Need-returns
 returns c =
     let s = c .before .before .before .before .before in
     let a = s .args in
-    send-law (a .counts .now) (a .deficits .now) (a .rows .now) _ (a .f) (a .visits) _ _ (omega (arith, s .pre .size)) (c .before .before .charge-of .ensures) (c .shifted .ensures)
+    send-law (a .counts .now) (a .deficits .now) (a .rows .now) _ (a .f) (a .visits) _ _
+    (omega (arith, s .pre .size)) (c .before .before .charge-of .ensures) (c .shifted .ensures)
 
 pub send-spec : {M : Type 1} → statement M
 send-spec =

@@ -1,30 +1,20 @@
+use mathlib.Core.Path.{ap}
 use borrow.Author.Needs.{needs}
-use Rattle.drr.proofs.Bools.{passed}
-use Rattle.drr.proofs.Facts.{sound-is}
-use Rattle.drr.proofs.Shape.{shaped}
-use Rattle.drr.proofs.Tables.{sound-ranged}
-use Rattle.figures.proofs.Laws.{unsound-figure, unknown-figure, known-figure}
+use Rattle.figures.specs.Answers.{figureIs}
+use Rattle.figures.proofs.Laws.{when-refused, when-passed}
 use Rattle.figures.proofs.wait.Statement.{statement}
 use Rattle.figures.proofs.wait.Tie as tie
 
 returns : tie.Need-returns
-returns c = unsound-figure _ _ _ _ (c .before .sound-line .ensures) (c .if1 .taken)
-
-returns-2 : tie.Need-returns-2
-returns-2 c = unknown-figure _ _ _ _ (c .before .before .sound-line .ensures) (c .before .if1 .left) (c .if2 .taken)
+returns c = when-refused _ _ (c .before .before .before .asked .ensures .0) (c .before .guard .given .1) _
 
 wait-in-requires : tie.Need-wait-in-requires
-wait-in-requires c κs =
-    let t = c .before .before .before .before in
-    let e = t .before in
-    let s = e .before .before .before .before in
-    (sound-ranged (sound-is _ _ (shaped (s .args .s) _ (s .good .0)) (passed (e .before .sound-line .ensures) (e .if1 .left))), t .if2 .left)
+wait-in-requires c κs = c .before .before .before .asked .ensures .1 (c .before .enum-told .given .1) .1
 
-returns-3 : tie.Need-returns-3
-returns-3 c =
-    let t = c .before .before .before .before .before in
-    let e = t .before in
-    known-figure _ _ _ _ (e .before .sound-line .ensures) (e .if1 .left) (t .if2 .left) _ (c .wait-in .ensures)
+returns-2 : tie.Need-returns-2
+returns-2 c =
+    let k = c .before .before in
+    when-passed _ _ (k .before .before .asked .ensures .0) (k .enum-told .given .1) (ap figureIs (c .wait-in .ensures))
 
 pub wait-spec : {M : Type 1} → statement M
-wait-spec = tie.close (tie.spec (λ c κs. search needs) returns returns-2 wait-in-requires returns-3)
+wait-spec = tie.close (tie.spec (λ c κs. search needs) (λ c. search needs) returns (λ c. search needs) wait-in-requires returns-2)

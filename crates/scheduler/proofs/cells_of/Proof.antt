@@ -6,7 +6,7 @@ use borrow.Author.Needs.{needs}
 use lib.ListN.{length, replicate, length-map}
 use lib.Seq.{paste}
 use Rattle.drr.specs.State.{lengthsOf, rowFrom, cellsIn}
-use Rattle.scheduler.proofs.Copies.{map-turn, copy-end}
+use Rattle.drr.proofs.Copies.{map-turn, copy-end}
 use Rattle.scheduler.proofs.cells_of.Statement.{statement}
 use Rattle.scheduler.proofs.cells_of.Tie as tie
 
@@ -28,7 +28,8 @@ long c = let a = c .args in length-map (a .t1) lengthsOf ∙ search needs
 loop-again : tie.Need-loop-again Inv-loop μ-loop
 loop-again c =
     let o = c .before .before .before in
-    (omega arith, map-turn lengthsOf zeros (o .before .args .t1) (o .loop .f) (rowFrom []) (o .loop .out) (o .loop .inv .1) (omega (arith, zeros-long)) (omega (arith, long (o .before))))
+    let turn = map-turn lengthsOf zeros (o .before .args .t1) (o .loop .f) (rowFrom []) (o .loop .out) (o .loop .inv .1) in
+    (omega arith, turn (omega (arith, zeros-long)) (omega (arith, long (o .before))))
 
 returns : tie.Need-returns Inv-loop μ-loop
 returns c =

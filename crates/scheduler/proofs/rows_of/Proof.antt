@@ -7,7 +7,7 @@ use lib.ListN.{length, replicate, length-map}
 use lib.Seq.{paste}
 use Rattle.drr.specs.declared.Row.{Row}
 use Rattle.drr.specs.State.{rowFrom, rowsFrom}
-use Rattle.scheduler.proofs.Copies.{map-turn, copy-end}
+use Rattle.drr.proofs.Copies.{map-turn, copy-end}
 use Rattle.scheduler.proofs.rows_of.Statement.{statement}
 use Rattle.scheduler.proofs.rows_of.Tie as tie
 
@@ -29,7 +29,8 @@ long c = let a = c .args in length-map (a .t1) rowFrom ∙ search needs
 loop-again : tie.Need-loop-again Inv-loop μ-loop
 loop-again c =
     let o = c .before .before in
-    (omega arith, map-turn rowFrom zeros (o .before .args .t1) (o .loop .f) [] (o .loop .out) (o .loop .inv .1) (omega (arith, zeros-long)) (omega (arith, long (o .before))))
+    let turn = map-turn rowFrom zeros (o .before .args .t1) (o .loop .f) [] (o .loop .out) (o .loop .inv .1) in
+    (omega arith, turn (omega (arith, zeros-long)) (omega (arith, long (o .before))))
 
 returns : tie.Need-returns Inv-loop μ-loop
 returns c =

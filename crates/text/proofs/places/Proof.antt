@@ -12,23 +12,16 @@ Inv-loop n k₀ rest₀ k rest = (k ≤ 20) × (k + further (20 - k) rest ≡ pl
 abbrev μ-loop : tie.MeasureT-loop
 μ-loop n k₀ rest₀ k rest = 20 - k
 
-loop-holds : tie.Need-loop-holds Inv-loop μ-loop
-loop-holds c = (omega arith, places-first (c .args .n))
-
 returns : tie.Need-returns Inv-loop μ-loop
 returns c =
     let o = c .before .before in
-    (omega (arith, o .loop .inv .1, no-further (20 - o .loop .k) (o .loop .rest) (c .if1 .taken)), omega (arith, o .loop .inv .0))
+    omega (arith, o .loop .inv .1, no-further (20 - o .loop .k) (o .loop .rest) (c .if1 .taken))
 
 loop-again : tie.Need-loop-again Inv-loop μ-loop
 loop-again c =
-    let o = c .before .before in
-    (omega (arith, c .before .loop-test .taken), places-step _ (o .loop .k) (o .loop .rest) (c .before .loop-test .taken) (c .if1 .left) (o .loop .inv .1))
-
-returns-2 : tie.Need-returns-2 Inv-loop μ-loop
-returns-2 c =
-    let o = c .before in
-    (places-last _ (o .loop .k) (o .loop .rest) (o .loop .inv .0) (c .loop-test .left) (o .loop .inv .1), o .loop .inv .0)
+    let k = c .before in
+    let o = k .before .loop in
+    (omega (arith, k .loop-test .taken), places-step _ (o .k) (o .rest) (k .loop-test .taken) (c .if1 .left) (o .inv .1))
 
 pub places-spec : {M : Type 1} → statement M
 places-spec =
@@ -36,9 +29,9 @@ places-spec =
     (tie.spec
     Inv-loop
     μ-loop
-    loop-holds
+    (λ c. (omega arith, places-first (c .args .n)))
     returns
     (λ c. omega arith)
     (λ c. omega arith)
     loop-again
-    returns-2)
+    (λ c. let o = c .before .loop in places-last _ (o .k) (o .rest) (o .inv .0) (c .loop-test .left) (o .inv .1)))

@@ -1,57 +1,53 @@
-use mathlib.Core.Path.{_∙_}
-use mathlib.Core.List.{List}
+use mathlib.Core.Path.{_≡_, refl, _∙_}
+use mathlib.Core.List.{List, [], _∷_, _++_}
 use Prim.Native.Nat.{ℕ, _+_, _-_, _≤_}
+use native.Mathlib.Omega.{arith}
 use borrow.Author.Needs.{needs}
-use lib.ListN.{length}
-use Rattle.text.proofs.Rows.{Midrow, fields-first, field-room, end-room, next-field, fields-end}
+use lib.ListN.{length, getD, drop, length-set}
+use Rattle.text.specs.Text.{decimal, fieldText, fieldsText}
+use Rattle.text.proofs.Texts.{one-more, Left, left-all, left-room, left-next, left-end}
+use Rattle.text.proofs.Lines.{field-first, fields-end}
 use Rattle.text.proofs.put_fields.Statement.{statement}
 use Rattle.text.proofs.put_fields.Tie as tie
 
 abbrev Inv-loop : tie.InvT-loop
-Inv-loop list buf₀ start at₀ i₀ buf at i = Midrow list buf₀ start at i buf
+Inv-loop fields buf₀ start at₀ done₀ buf at done = Left buf₀ start (fieldsText fields) buf at (fieldsText (drop done fields))
 
 abbrev μ-loop : tie.MeasureT-loop
-μ-loop list buf₀ start at₀ i₀ buf at i = length list - i
+μ-loop fields buf₀ start at₀ done₀ buf at done = length fields - done
 
--- in a turn: the list, the buffer at the start, and where the loop stands
+abbrev l : tie.At-loop Inv-loop μ-loop → List ℕ
+l o = o .before .before .before .args .fields .now
+
+-- in a turn: a field, and its room
 module _ (c : tie.In-loop Inv-loop μ-loop) where
   abbrev O : tie.At-loop Inv-loop μ-loop
   O = c .before
 
-  abbrev S : tie.Start Inv-loop μ-loop
-  S = O .before .before .before
+  abbrev n : ℕ
+  n = getD (l O) (O .loop .done) 0
 
-  abbrev l : List ℕ
-  l = S .args .list .now
+  is : fieldsText (drop (O .loop .done) (l O)) ≡ fieldText n ++ fieldsText (drop (O .loop .done + 1) (l O))
+  is = field-first (l O) (O .loop .done) (c .loop-test .taken)
 
-  room : O .loop .at + 21 ≤ length (O .loop .buf)
-  room = field-room l (S .args .buf .now) (S .args .start) (O .loop .at) (O .loop .i) (O .loop .buf) (O .loop .inv) (c .loop-test .taken)
+  room : O .loop .at + length (fieldText n) ≤ length (O .loop .buf)
+  room = left-room (O .loop .inv) (fieldText n) _ is
 
 loop-again : tie.Need-loop-again Inv-loop μ-loop
 loop-again c =
     let p = c .before .before in
     let k = p .before .before .before in
-    next-field (l k) (S k .args .buf .now) (S k .args .start) (O k .loop .at) (O k .loop .i) (O k .loop .buf) (O k .loop .inv) (k .loop-test .taken) _ _ (p .put-field .ensures) (p .put-field .kept .0)
+    let o = O k .loop in
+    left-next (o .inv) (fieldText (n k)) _ (is k)
+    _ _ (one-more (o .buf) (decimal (n k)) _ (o .at) 32 _ (p .put-number .ensures)) (p .put-number .kept .0 ∙ simp length-set)
 
-put-requires : tie.Need-put-requires Inv-loop μ-loop
-put-requires c κs =
-    let o = c .before .before in
-    let s = o .before .before .before in
-    end-room (s .args .list .now) (s .args .buf .now) (s .args .start) (o .loop .at) (o .loop .i) (o .loop .buf) (o .loop .inv)
+-- after the loop the newline is left
+module _ (c : tie.After-loop Inv-loop μ-loop) where
+  end : fieldsText (drop (c .before .loop .done) (l (c .before))) ≡ 10 ∷ []
+  end = fields-end (l (c .before)) (c .before .loop .done) (c .loop-test .left)
 
-same-length : tie.Need-same-length Inv-loop μ-loop
-same-length c =
-    let p = c .before .before in
-    let o = p .before .before .before in
-    p .put .kept .0 ∙ o .loop .inv .size
-
-returns : tie.Need-returns Inv-loop μ-loop
-returns c =
-    let p = c .before .before in
-    let e = p .before .before in
-    let o = e .before in
-    let s = o .before .before .before in
-    fields-end (s .args .list .now) (s .args .buf .now) (s .args .start) (o .loop .at) (o .loop .i) (o .loop .buf) (o .loop .inv) (e .loop-test .left) _ _ (p .put .ensures)
+  end-room : c .before .loop .at + 1 ≤ length (c .before .loop .buf)
+  end-room = left-room (c .before .loop .inv) (10 ∷ []) [] end
 
 pub put-fields-spec : {M : Type 1} → statement M
 put-fields-spec =
@@ -59,13 +55,16 @@ put-fields-spec =
     (tie.spec
     Inv-loop
     μ-loop
-    (λ c. let s = c .before .before in fields-first (s .args .list .now) (s .args .buf .now) (s .args .start) (s .pre .0) (s .pre .1))
+    (λ c. left-all _ _ _ (c .before .before .pre))
+    (λ c. omega (arith, room c))
+    (λ c. let h = room (c .before) in search needs)
     (λ c. search needs)
     (λ c. search needs)
-    (λ c κs. room (c .before .before))
+    (λ c κs. simp length-set (omega (arith, room (c .before .before))))
     (λ c. search needs)
     (λ c. search needs)
     loop-again
-    put-requires
-    same-length
-    returns)
+    (λ c. omega (arith, end-room c))
+    (λ c. let h = end-room c in search needs)
+    (λ c. simp length-set (c .before .loop .inv .size))
+    (λ c. left-end (c .before .loop .inv) (10 ∷ []) (end c) _ _ (refl, refl)))

@@ -1,58 +1,70 @@
-use mathlib.Core.Path.{_∙_}
+use mathlib.Core.Path.{sym, ap, _∙_}
 use mathlib.Core.List.{List}
-use Prim.Native.Nat.{ℕ, _+_, _*_, _-_, _≤_, _<_}
+use Prim.Native.Nat.{ℕ, _+_, _≤_}
 use native.Mathlib.Omega.{arith}
-use lib.ListN.{length}
-use Rattle.text.proofs.Texts.{Before, before-first, line-room, last-line, no-line, next-line}
+use borrow.Author.Needs.{needs}
+use lib.ListN.{length, getD, take, drop, length-drop}
+use lib.Seq.{length-take-le}
+use Rattle.text.specs.declared.Form.{Form}
+use Rattle.text.specs.Text.{formText, fieldsIn, listingText, Put}
+use Rattle.text.proofs.Texts.{Left, left-all, left-room, left-next, left-end, put-none}
+use Rattle.text.proofs.Lines.{in-form, at-most-five, firstLine, six-first, line-first, line-last, line-none}
 use Rattle.text.proofs.put_lines.Statement.{statement}
 use Rattle.text.proofs.put_lines.Tie as tie
 
 abbrev Inv-loop : tie.InvT-loop
-Inv-loop list buf₀ at₀ i₀ buf at i = Before list buf₀ at i buf
+Inv-loop list buf₀ at₀ rest₀ buf at rest = Left buf₀ 0 (listingText list) buf at (listingText rest)
 
 abbrev μ-loop : tie.MeasureT-loop
-μ-loop list buf₀ at₀ i₀ buf at i = length list - i
+μ-loop list buf₀ at₀ rest₀ buf at rest = length rest
 
--- in a turn: the list, the buffer at the start, and what is known of the index
+-- in a turn: the list that is left
 module _ (c : tie.In-loop Inv-loop μ-loop) where
   abbrev O : tie.At-loop Inv-loop μ-loop
   O = c .before
 
-  abbrev S : tie.Start Inv-loop μ-loop
-  S = O .before .before .before
-
   abbrev l : List ℕ
-  l = S .args .list .now
+  l = O .loop .rest .now
 
-  abbrev o : List ℕ
-  o = S .args .buf .now
+  room : O .loop .at + length (firstLine l) ≤ length (O .loop .buf)
+  room = left-room (O .loop .inv) (firstLine l) _ (six-first l (c .loop-test .taken))
 
-  fits : O .loop .i + 6 ≤ length l
-  fits = omega (arith, O .loop .inv .inside, c .loop-test .taken)
+-- .. its first line fits, by the form that is found
+put-line-requires : tie.Need-put-line-requires Inv-loop μ-loop
+put-line-requires c κs =
+    let f = c .before .before in
+    let k = f .before .before in
+    let long : 5 ≤ length (drop 1 (l k)) = omega (arith, k .loop-test .taken, length-drop 1 (l k)) in (
+      omega (arith, ap fieldsIn (f .form-of .ensures), at-most-five (getD (l k) 0 0), length-take-le 5 (drop 1 (l k)) long),
+      omega (arith, room k, ap (λ (g : Form). length (formText g (take 5 (drop 1 (l k))))) (f .form-of .ensures)),
+    )
 
-  wide : length l * 8 < 9223372036854775808
-  wide = omega (arith, S .good .0 .1)
-
-  room : O .loop .at + 108 ≤ length (O .loop .buf)
-  room = line-room l o (O .loop .at) (O .loop .i) (O .loop .buf) (O .loop .inv) fits
+-- .. and is put
+put : (p : tie.After-put-line Inv-loop μ-loop) → let k = p .before .before .before .before .before in
+    Put (O k .loop .buf) (O k .loop .at) (firstLine (l k)) (p .put-line .last .1 .1 .0) (p .put-line .result)
+put p =
+    let f = p .before .before .before in
+    let k = f .before .before in
+    in-form (sym (f .form-of .ensures)) (take 5 (drop 1 (l k))) (O k .loop .buf) _ (O k .loop .at) _ (p .put-line .ensures)
 
 returns : tie.Need-returns Inv-loop μ-loop
 returns c =
     let p = c .before .before .before in
-    let k = p .before .before .before .before .before .before .before .before in
-    last-line (l k) (o k) (O k .loop .at) (O k .loop .i) (O k .loop .buf) (O k .loop .inv) (fits k) (c .if1 .taken) _ _ (p .put-text .ensures .0)
+    let k = p .before .before .before .before .before in
+    left-end (O k .loop .inv) _ (line-last (l k) (k .loop-test .taken) (c .if1 .taken)) _ _ (put p)
 
 loop-again : tie.Need-loop-again Inv-loop μ-loop
 loop-again c =
-    let p = c .before .before .before in
-    let k = p .before .before .before .before .before .before .before .before in
-    next-line (l k) (o k) (O k .loop .at) (O k .loop .i) (O k .loop .buf) (O k .loop .inv) (fits k) (c .if1 .left) _ _ (p .put-text .ensures) (p .put-text .kept .0)
+    let e = c .before in
+    let p = e .before .before .before in
+    let k = p .before .before .before .before .before in
+    left-next (O k .loop .inv) (firstLine (l k)) _ (line-first (l k) (k .loop-test .taken) (e .if1 .left))
+    _ _ (put p) (p .put-line .kept .1 .1 .0)
 
 returns-2 : tie.Need-returns-2 Inv-loop μ-loop
 returns-2 c =
-    let q = c .before in
-    let s = q .before .before .before in
-    no-line (s .args .list .now) (s .args .buf .now) (q .loop .at) (q .loop .i) (q .loop .buf) (q .loop .inv) (c .loop-test .left)
+    let o = c .before .loop in
+    left-end (o .inv) _ (line-none (o .rest .now) (c .loop-test .left)) _ _ (put-none (o .buf) (o .at))
 
 pub put-lines-spec : {M : Type 1} → statement M
 put-lines-spec =
@@ -60,30 +72,19 @@ put-lines-spec =
     (tie.spec
     Inv-loop
     μ-loop
-    (λ c. before-first _ _ (c .before .before .pre))
-    (λ c. c .loop .inv .inside)
-    (λ c. omega (arith, fits c, wide c))
-    (λ c. omega (arith, fits (c .before)))
-    (λ c. omega (arith, fits (c .before), wide (c .before)))
-    (λ c. omega (arith, fits (c .before), wide (c .before)))
-    (λ c. omega (arith, fits (c .before .before)))
-    (λ c. omega (arith, fits (c .before .before), wide (c .before .before)))
-    (λ c. omega (arith, fits (c .before .before), wide (c .before .before)))
-    (λ c. omega (arith, fits (c .before .before .before)))
-    (λ c. omega (arith, fits (c .before .before .before), wide (c .before .before .before)))
-    (λ c. omega (arith, fits (c .before .before .before), wide (c .before .before .before)))
-    (λ c. omega (arith, fits (c .before .before .before .before)))
-    (λ c. omega (arith, fits (c .before .before .before .before), wide (c .before .before .before .before)))
-    (λ c. omega (arith, fits (c .before .before .before .before), wide (c .before .before .before .before)))
-    (λ c. omega (arith, fits (c .before .before .before .before .before)))
-    (λ c. omega (arith, fits (c .before .before .before .before .before), wide (c .before .before .before .before .before)))
-    (λ c. omega (arith, fits (c .before .before .before .before .before), wide (c .before .before .before .before .before)))
-    (λ c. omega (arith, fits (c .before .before .before .before .before .before)))
-    (λ c κs. room (c .before .before .before .before .before .before .before))
-    (λ c. let p = c .before .before .before in p .put-text .kept .0 ∙ O (p .before .before .before .before .before .before .before .before) .loop .inv .size)
+    (λ c. left-all _ _ _ (omega (arith, c .before .before .pre)))
+    (λ c. search needs)
+    (λ c κs. search needs)
+    (λ c. search needs)
+    (λ c. search needs)
+    (λ c. search needs)
+    put-line-requires
+    (λ c. let p = c .before .before .before in p .put-line .kept .1 .1 .0 ∙ O (p .before .before .before .before .before) .loop .inv .size)
     returns
-    (λ c. let k = c .before .before .before .before .before .before .before .before .before .before .before in omega (arith, fits k, wide k))
-    (λ c. omega (arith, fits (c .before .before .before .before .before .before .before .before .before .before .before)))
+    (λ c. search needs)
+    (λ c. search needs)
+    (λ c. search needs)
+    (λ c. search needs)
     loop-again
     (λ c. c .before .loop .inv .size)
     returns-2)

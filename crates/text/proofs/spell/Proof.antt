@@ -3,26 +3,25 @@ use Prim.Native.Nat.{_+_, _-_, _≤_, _<_}
 use native.Mathlib.Omega.{arith}
 use borrow.Author.Needs.{needs}
 use lib.ListN.{length, length-set}
+use lib.Seq.{sets}
 use Rattle.io.specs.Digits.{digits}
-use Rattle.text.specs.Text.{placed}
 use Rattle.text.proofs.Texts.{digit-turn, digits-done}
 use Rattle.text.proofs.spell.Statement.{statement}
 use Rattle.text.proofs.spell.Tie as tie
 
 abbrev Inv-loop : tie.InvT-loop
-Inv-loop b₀ at k n i₀ rest₀ b i rest = (i ≤ k) × (length b ≡ length b₀) × (placed b at (digits 10 i rest) ≡ placed b₀ at (digits 10 k n))
+Inv-loop b₀ at k n i₀ rest₀ b i rest = (i ≤ k) × (length b ≡ length b₀) × (sets b at (digits 10 i rest) ≡ sets b₀ at (digits 10 k n))
 
 abbrev μ-loop : tie.MeasureT-loop
 μ-loop b₀ at k n i₀ rest₀ b i rest = i
 
 loop-again : tie.Need-loop-again Inv-loop μ-loop
 loop-again c =
-    let o = c .before in
-    let a = o .before .args in
-    let size : length (o .loop .buf) ≡ length (a .buf .now) = o .loop .inv .1 in (
-      omega (arith, o .loop .inv .0),
-      simp length-set size,
-      digit-turn (o .loop .buf) (a .at) (o .loop .i) (o .loop .rest) (c .loop-test .taken) (omega (arith, size, o .loop .inv .0, o .before .pre)) ∙ o .loop .inv .2,
+    let o = c .before .loop in
+    let at = c .before .before .args .at in (
+      omega (arith, o .inv .0),
+      simp length-set (o .inv .1),
+      digit-turn (o .buf) at (o .i) (o .rest) (c .loop-test .taken) ∙ o .inv .2,
     )
 
 returns : tie.Need-returns Inv-loop μ-loop

@@ -1,70 +1,107 @@
 use mathlib.Core.Path.{_≡_, sym, ap, _∙_}
 use mathlib.Core.List.{List}
-use Prim.Native.Nat.{ℕ}
+use Prim.Native.Nat.{ℕ, _*_, _-_, _≤_}
+use native.Mathlib.Omega.{arith}
 use borrow.Author.Needs.{needs}
-use Rattle.drr.specs.Answers.{fine, verdictPaper, Reply, reply}
-use Rattle.drr.specs.Setup.{setupReply}
-use Rattle.runfile.specs.File.{eventOffset, eventsFrom, flowsIn, eventsIn, headerAnswer, ticksAnswer}
-use Rattle.runfile.proofs.Files.{part-is, flows-refused, ticks-refused, all-fine}
+use lib.ListN.{length, take, drop, length-drop}
+use Rattle.drr.specs.Answers.{fine, verdictPaper}
+use Rattle.drr.specs.Setup.{setupAnswer}
+use Rattle.runfile.specs.declared.reader.Layout.{Layout}
+use Rattle.runfile.specs.File.{eventCount, eventOffset, flowsIn, eventsIn, eventsFrom, ticksAnswer, Laid}
+use Rattle.runfile.proofs.Files.{part-is, laid-fine, flows-refused, ticks-refused, all-fine}
 use Rattle.runfile.proofs.reader.read_tables.Statement.{statement}
 use Rattle.runfile.proofs.reader.read_tables.Tie as tie
 
--- the file, whose header has no fault
-abbrev file : tie.After-flows-of → List ℕ
-file x = x .before .before .before .before .args .file .now
+-- the file, and the events' numbers in its header
+module _ (s : tie.Start) where
+  abbrev b : List ℕ
+  b = s .args .file .now
 
-header : (x : tie.After-flows-of) → headerAnswer (file x) ≡ fine
-header x = x .before .before .before .before .pre .1
+  lies : Laid b
+  lies = laid-fine b (s .pre .0)
 
-setup : (x : tie.After-flows-of) → reply (verdictPaper (x .flows-of .result .answer)) (x .flows-of .result .state) ≡ setupReply (flowsIn (file x))
-setup x = x .flows-of .ensures
+  count-is : s .args .layout .events .count ≡ eventCount b
+  count-is = ap (λ (x : Layout). x .events .count) (s .pre .1)
 
--- what is handed on is the part of the file at the table's offset
-order : (y : tie.After-ticks) → verdictPaper (y .ticks .result) ≡ ticksAnswer 0 0 (eventsIn (file (y .before .before .before .before)))
-order y =
-    let x = y .before .before .before .before in
-    let l = x .before in
-    let b = file x in
-    y .ticks .ensures ∙ (λ j. ticksAnswer 0 0 (eventsFrom (part-is b (l .le4 .result) (eventOffset b) (l .le4 .ensures .0) j) 0 (l .before .le2 .ensures .0 j)))
+  at-is : s .args .layout .events .at ≡ eventOffset b
+  at-is = ap (λ (x : Layout). x .events .at) (s .pre .1)
+
+  starts : s .args .layout .events .at ≤ length b
+  starts = omega (arith, at-is, lies .events-inside)
+
+  part-long : 8 * s .args .layout .events .count
+      ≤ length (take (length b - s .args .layout .events .at) (drop (s .args .layout .events .at) b))
+  part-long =
+      omega (
+        arith,
+        count-is,
+        lies .events-inside,
+        ap length (part-is b (s .args .layout .events .at) (eventOffset b) at-is),
+        length-drop (eventOffset b) b,
+      )
+
+-- setup's answer, seen from the flows
+module _ (x : tie.After-flows-of) where
+  abbrev S : tie.Start
+  S = x .before .before .before .before
 
 -- setup accepted the flows
-accepted : (m : tie.After-enum-told2) → fine ≡ setupReply (flowsIn (file (m .before .before))) .answer
-accepted m = sym (ap verdictPaper (m .enum-told2 .given .1)) ∙ ap (λ (z : Reply). z .answer) (setup (m .before .before))
+accepted : (m : tie.After-enum-told) → fine ≡ setupAnswer (flowsIn (b (S (m .before .before))))
+accepted m = sym (ap verdictPaper (m .enum-told .given .1)) ∙ m .before .before .flows-of .ensures .0
+
+-- the ticks' answer is the file's
+module _ (y : tie.After-ticks) where
+  abbrev M : tie.After-enum-told
+  M = y .before .before
+
+  abbrev X : tie.After-flows-of
+  X = M .before .before
+
+  order : verdictPaper (y .ticks .result) ≡ ticksAnswer 0 0 (eventsIn (b (S X)))
+  order =
+      y .ticks .ensures
+      ∙ (λ j. ticksAnswer 0 0
+      (eventsFrom (part-is (b (S X)) (S X .args .layout .events .at) (eventOffset (b (S X))) (at-is (S X)) j) 0 (count-is (S X) j)))
 
 returns : tie.Need-returns
 returns c =
-    let x = c .before .before in
-    setup x ∙ flows-refused (file x) (header x) (c .enum-told .given .0 .0) (c .enum-told .given .0 .1 .0) (sym (ap verdictPaper (c .enum-told .given .1)) ∙ ap (λ (z : Reply). z .answer) (setup x))
+    let k = c .before .before in
+    let x = k .before .before in
+    let told = sym (ap verdictPaper (k .answer .given .1)) ∙ x .flows-of .ensures .0 in
+    let g = flows-refused (b (S x)) (S x .pre .0) (k .answer .given .0 .0) _ told in
+    let r = c .refused .ensures in
+    (r .0 ∙ g .answers, (r .1 ∙ g .tables, r .2 ∙ g .events))
 
 returns-2 : tie.Need-returns-2
 returns-2 c =
     let k = c .before .before in
     let y = k .before .before in
-    let m = y .before .before in
-    let x = m .before .before in
-    c .refused .ensures ∙ ticks-refused (file x) (header x) (accepted m) (k .order .given .0 .0) _ (sym (ap verdictPaper (k .order .given .1)) ∙ order y)
+    let told = sym (ap verdictPaper (k .order .given .1)) ∙ order y in
+    let g = ticks-refused (b (S (X y))) (S (X y) .pre .0) (accepted (M y)) (k .order .given .0 .0) _ told in
+    let r = c .refused2 .ensures in
+    (r .0 ∙ g .answers, (r .1 ∙ g .tables, r .2 ∙ g .events))
 
 returns-3 : tie.Need-returns-3
 returns-3 c =
-    let y = c .before .before in
-    let m = y .before .before in
-    let x = m .before .before in
-    setup x ∙ all-fine (file x) (header x) (accepted m) (sym (ap verdictPaper (c .enum-told3 .given .1)) ∙ order y)
+    let e = c .before in
+    let y = e .before .before in
+    let s = S (X y) in
+    let g = all-fine (b s) (s .pre .0) (accepted (M y)) (sym (ap verdictPaper (e .enum-told2 .given .1)) ∙ order y) in
+    (g .answers, (X y .flows-of .ensures .1 ∙ g .tables, ap (λ (x : Layout). x .events) (s .pre .1) ∙ g .events))
 
 pub read-tables-spec : {M : Type 1} → statement M
 read-tables-spec =
     tie.close
     (tie.spec
-    (λ c κs. search needs)
-    (λ c κs. search needs)
-    (λ c κs. search needs)
+    (λ c κs. let s = c .before .before .before in (lies s, ap (λ (x : Layout). x .flows) (s .pre .1)))
     (λ c. search needs)
+    (λ c κs. search needs)
     returns
     (λ c. search needs)
+    (λ c. starts (S (c .before .before)))
+    (λ c. starts (S (c .before .before)))
     (λ c. search needs)
-    (λ c. search needs)
-    (λ c. search needs)
-    (λ c κs. search needs)
+    (λ c κs. let s = S (c .before .before .before) in (part-long s, omega (arith, count-is s, lies s .events-few)))
     (λ c. search needs)
     (λ c κs. search needs)
     returns-2

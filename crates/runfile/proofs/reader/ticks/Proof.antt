@@ -21,12 +21,18 @@ loop-holds c =
 returns : tie.Need-returns Inv-loop μ-loop
 returns c =
     let o = c .before .before .before in
-    sym (o .loop .inv .1 ∙ tick-falls _ _ (o .loop .i) (o .loop .last) (c .before .before .loop-test .taken) (c .before .le4 .result) (c .before .le4 .ensures .0) (c .if1 .taken))
+    sym (o .loop .inv .1
+    ∙ tick-falls _ _ (o .loop .i) (o .loop .last) (c .before .before .loop-test .taken) (c .before .le4 .result)
+    (c .before .le4 .ensures .0) (c .if1 .taken))
 
 loop-again : tie.Need-loop-again Inv-loop μ-loop
 loop-again c =
-    let o = c .before .before .before in
-    (omega arith, o .loop .inv .1 ∙ tick-fine _ _ (o .loop .i) (o .loop .last) (c .before .before .loop-test .taken) (c .before .le4 .result) (c .before .le4 .ensures .0) (c .if1 .left))
+    let o = c .before .before .before in (
+      omega arith,
+      o .loop .inv .1
+          ∙ tick-fine _ _ (o .loop .i) (o .loop .last) (c .before .before .loop-test .taken) (c .before .le4 .result)
+          (c .before .le4 .ensures .0) (c .if1 .left),
+    )
 
 returns-2 : tie.Need-returns-2 Inv-loop μ-loop
 returns-2 c = let o = c .before in sym (o .loop .inv .1 ∙ no-more _ _ (o .loop .i) (o .loop .last) (c .loop-test .left))

@@ -10,7 +10,8 @@ use Rattle.runfile.proofs.turns.note.Tie as tie
 returns : tie.Need-returns
 returns c =
     let a = c .before .before .before .before .args in
-    let n = noted-none (a .out .now) (a .y .sent + a .y .refused) (a .tick) (a .flow) (a .len) (a .answer) (c .before .enum-told .given .1) in
+    let n = noted-none (a .out .now) (a .y .sent + a .y .refused) (a .tick) (a .flow) (a .len) (a .answer)
+    (c .before .enum-told .given .1) in
     (c .after-event .ensures ∙ ap (λ (x : ℕ). afterEvent (a .tick) x (a .y)) (n .0), n .1)
 
 returns-2 : tie.Need-returns-2
@@ -20,8 +21,9 @@ returns-2 c =
     let r = w .before .before .before in
     let k = r .before .before in
     let a = k .before .before .before .args in
-    let n = noted-some (a .out .now) (a .y .sent + a .y .refused) (a .tick) (a .flow) (a .len) (a .answer) (k .answer .given .0 .0) (k .answer .given .1)
-    (r .refusal-number .result) _ (r .refusal-number .ensures) (w .wide .ensures) _ (p .put-line .ensures) in
+    let n = noted-some (a .out .now) (a .y .sent + a .y .refused) (a .tick) (a .flow) (a .len) (a .answer) (k .answer .given .0 .0)
+    (k .answer .given .1)
+    (r .refusal-number .result) _ (r .refusal-number .ensures) (w .usize-of-u32 .ensures .0) _ (p .put-line .ensures) in
     (c .after-event2 .ensures ∙ ap (λ (x : ℕ). afterEvent (a .tick) x (a .y)) (n .0), n .1)
 
 pub note-spec : {M : Type 1} → statement M

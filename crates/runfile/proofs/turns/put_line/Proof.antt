@@ -10,7 +10,8 @@ use Rattle.runfile.proofs.turns.put_line.Tie as tie
 
 returns : tie.Need-returns
 returns c =
-    six (now (c .args .out)) (c .args .k) (6 * c .args .k) (c .args .a) (c .args .b) (c .args .c) (c .args .d) (c .args .e) (c .args .f) refl (c .pre .0)
+    six (now (c .args .out)) (c .args .k) (6 * c .args .k) (c .args .a) (c .args .b) (c .args .c) (c .args .d) (c .args .e)
+    (c .args .f) refl (c .pre .0)
 
 pub put-line-spec : {M : Type 1} → statement M
 put-line-spec =

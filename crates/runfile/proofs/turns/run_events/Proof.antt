@@ -1,108 +1,139 @@
 use mathlib.Core.Path.{_≡_, refl, ap, _∙_, subst⁻¹}
-use mathlib.Core.List.{List}
+use mathlib.Core.List.{List, _++_}
 use Prim.Native.Nat.{ℕ, _+_, _*_, _-_, _≤_, _<_}
 use native.Mathlib.Omega.{arith}
 use borrow.Author.Needs.{needs}
-use lib.ListN.{length}
+use lib.ListN.{length, drop}
 use Rattle.drr.specs.declared.Table.{Table}
+use Rattle.drr.specs.Limits.{mostMaximum, mostEvents}
 use Rattle.drr.specs.State.{Line, tableOf, lineOf}
+use Rattle.drr.specs.Facts.{Ranged}
 use Rattle.drr.specs.Answers.{idle, sentAs, arrivalPaper, pickPaper, outcome}
 use Rattle.drr.specs.Computed.{pickOf}
-use Rattle.drr.proofs.Waiting.{waitingAll}
+use Rattle.drr.proofs.States.{table-apart}
 use Rattle.engine.proofs.Loop.{sound-bookable}
 use Rattle.runfile.specs.File.{eventAt, eventsFrom}
 use Rattle.runfile.specs.Listing.{eventsListing}
 use Rattle.runfile.proofs.Lines.{written-length}
-use Rattle.runfile.proofs.Going.{Inside, Later, late, lines, lines-most, line-fits, inside-first, books, booked-less, sends, sent-less, given-most, inside-jumps, jumps-less, run-ends, not-sent, is-due, not-due}
+use Rattle.runfile.proofs.Going.{Inside, Here, Later, ahead-of, lines, lines-most, line-fits, inside-first, books, booked-less}
+use Rattle.runfile.proofs.Going.{sends, sent-less, given-most, inside-jumps, jumps-less, run-ends, not-sent, has-come, not-come}
 use Rattle.runfile.proofs.turns.run_events.Statement.{statement}
 use Rattle.runfile.proofs.turns.run_events.Tie as tie
 
 abbrev Inv-loop : tie.InvT-loop
-Inv-loop t m n quanta maxima out₀ counts₀ deficits₀ rows₀ spot₀ y₀ now₀ at₀ out counts deficits rows spot y now at =
-    Inside (tableOf n quanta maxima) t m out₀ (eventsListing (tableOf n quanta maxima) (eventsFrom t 0 m)) now at y (lineOf counts deficits rows spot) out
+Inv-loop t m out₀ common quanta maxima counts₀ deficits₀ rows₀ spot₀ y₀ now₀ at₀ out counts deficits rows spot y now at =
+    let T = tableOf common quanta maxima in
+    Inside T t m out₀ (eventsListing T (eventsFrom t 0 m)) now at y (lineOf counts deficits rows spot) out
 
 abbrev μ-loop : tie.MeasureT-loop
-μ-loop t m n quanta maxima out₀ counts₀ deficits₀ rows₀ spot₀ y₀ now₀ at₀ out counts deficits rows spot y now at =
-    4 * (m - at) + 2 * waitingAll (lineOf counts deficits rows spot) + late t m now at
+μ-loop t m out₀ common quanta maxima counts₀ deficits₀ rows₀ spot₀ y₀ now₀ at₀ out counts deficits rows spot y now at =
+    ahead-of t m now at (lineOf counts deficits rows spot)
 
--- before a turn: the run's parts, and what is known of them
-module _ (a : tie.At-loop Inv-loop μ-loop) where
-  abbrev St : tie.Start Inv-loop μ-loop
-  St = a .before .before .before .before .before
+-- the table, as it was taken apart before the loop
+module _ (k : tie.After-common-of Inv-loop μ-loop) where
+  abbrev S : tie.Start Inv-loop μ-loop
+  S = k .before .before .before
 
   abbrev T : Table
-  T = tableOf (St .args .n) (St .args .quanta .now) (St .args .maxima .now)
+  T = tableOf (k .common-of .result) (S .args .table .quanta) (S .args .table .maxima)
+
+  table-is : T ≡ S .args .table
+  table-is = table-apart (S .args .table) (k .common-of .ensures)
+
+  ranged : Ranged T
+  ranged = subst⁻¹ Ranged table-is (S .pre .1 .0 .0)
+
+  some-flow : 1 ≤ k .common-of .result .n
+  some-flow = omega (arith, ap (λ (x : Table). x .n) table-is, S .pre .1 .0 .1)
+
+-- before a turn: where the run is
+module _ (a : tie.At-loop Inv-loop μ-loop) where
+  abbrev K : tie.After-common-of Inv-loop μ-loop
+  K = a .before .before .before .before .before .before
 
   abbrev t : List ℕ
-  t = St .args .t .now
+  t = S K .args .t .now
 
   abbrev m : ℕ
-  m = St .args .m
-
-  abbrev o₀ : List ℕ
-  o₀ = St .args .out .now
-
-  abbrev L : List ℕ
-  L = eventsListing T (eventsFrom t 0 m)
+  m = S K .args .m
 
   abbrev l : Line
   l = lineOf (a .loop .counts) (a .loop .deficits) (a .loop .rows) (a .loop .spot)
 
   -- what is asked of the caller, by its parts
-  given : (8 * m ≤ length t) × (m ≤ 1024) × (6 * (m + 1) ≤ length o₀)
-  given = let p = St .pre in (p .0 .0, p .0 .1, p .1 .1)
+  given : (8 * m ≤ length t) × (m ≤ mostEvents) × (6 * (m + 1) ≤ length (S K .args .out .now))
+  given = let p = S K .pre in (p .0 .0, p .0 .1, p .1 .1)
 
-  few : lines (a .loop .y) ≤ 1024
-  few = omega (arith, lines-most T t m o₀ L (given .2) (a .loop .now) (a .loop .at) (a .loop .y) l (a .loop .out) (a .loop .inv), a .loop .inv .at-most, given .1)
+  abbrev here : Here
+  here = record {
+    table = T K;
+    file = t;
+    events = m;
+    before = S K .args .out .now;
+    whole = eventsListing (T K) (eventsFrom t 0 m);
+    room = given .2;
+    tick = a .loop .now;
+    passed = a .loop .at;
+    count = a .loop .y;
+    line = l;
+    list = a .loop .out;
+    inside = a .loop .inv;
+  }
+
+  few : lines (a .loop .y) ≤ mostEvents
+  few = omega (arith, lines-most here, a .loop .inv .at-most, given .1)
 
   fits : 6 * lines (a .loop .y) + 6 ≤ length (a .loop .out)
-  fits = line-fits T t m o₀ L (given .2) (a .loop .now) (a .loop .at) (a .loop .y) l (a .loop .out) (a .loop .inv)
+  fits = line-fits here
 
--- no event is due where a pick is made
-later : (j : tie.Else1 Inv-loop μ-loop) → Later (t (j .before .before)) (m (j .before .before)) (j .before .before .loop .now) (j .before .before .loop .at)
-later j = let a = j .before .before in not-due (t a) (m a) (a .loop .now) (a .loop .at) (j .before .is-due .ensures) (j .if1 .left)
+-- no event has come where a pick is made
+later : (j : tie.Else1 Inv-loop μ-loop) →
+    let a = j .before .before in Later (t a) (m a) (a .loop .now) (a .loop .at)
+later j = let a = j .before .before in not-come (t a) (m a) (a .loop .now) (a .loop .at) (j .before .has-come .ensures) (j .if1 .left)
 
 -- ---- an event is booked: the turn's places
 module _ (d : tie.Then1 Inv-loop μ-loop) where
   abbrev A : tie.At-loop Inv-loop μ-loop
   A = d .before .before
 
-  due : (A .loop .at < m A) × (eventAt (t A) (A .loop .at) .tick ≤ A .loop .now)
-  due = is-due (t A) (m A) (A .loop .now) (A .loop .at) (d .before .is-due .ensures) (d .if1 .taken)
+  come : (A .loop .at < m A) × (eventAt (t A) (A .loop .at) .tick ≤ A .loop .now)
+  come = has-come (t A) (m A) (A .loop .now) (A .loop .at) (d .before .has-come .ensures) (d .if1 .taken)
 
 module _ (N : tie.After-note Inv-loop μ-loop) where
   abbrev B : tie.After-book Inv-loop μ-loop
   B = N .before .before
 
   abbrev E2 : tie.After-le22 Inv-loop μ-loop
-  E2 = B .before .before .before
+  E2 = B .before .before .before .before
 
-  abbrev K : tie.After-le4 Inv-loop μ-loop
-  K = E2 .before .before
+  abbrev E4 : tie.After-le4 Inv-loop μ-loop
+  E4 = E2 .before .before
 
   abbrev D : tie.Then1 Inv-loop μ-loop
-  D = K .before
+  D = E4 .before
+
+  has : E4 .le4 .result ≤ A D .loop .now
+  has = subst⁻¹ (λ (x : ℕ). x ≤ A D .loop .now) (E4 .le4 .ensures .0) (come D .1)
 
 loop-again : tie.Need-loop-again Inv-loop μ-loop
 loop-again c =
     let n = c .before .before in
     let a = A (D n) in
-    books (T a) (t a) (m a) (o₀ a) (L a) (given a .2) (a .loop .now) (a .loop .at) (a .loop .y) (l a) (a .loop .out) (a .loop .inv)
-    (K n .le4 .result) (E2 n .before .le2 .result) (E2 n .le22 .result) (K n .le4 .ensures .0) (E2 n .before .le2 .ensures .0) (E2 n .le22 .ensures .0)
-    (due (D n) .0) (subst⁻¹ (λ (x : ℕ). x ≤ a .loop .now) (K n .le4 .ensures .0) (due (D n) .1)) (arrivalPaper (B n .book .result)) _ (B n .book .ensures (St a .args .quanta .now) (a .loop .deficits) (a .loop .spot))
-    _ (n .note .ensures .1) (arrivalPaper (B n .book .result) .refusal) refl _ (n .note .ensures .0)
+    let e = B n .book .ensures (S (K a) .args .table .quanta) (a .loop .deficits) (a .loop .spot) in
+    books (here a) _ _ _ (E4 n .le4 .ensures .0) (E2 n .before .le2 .ensures .0) (E2 n .le22 .ensures .0) (come (D n) .0) (has n)
+    (arrivalPaper (B n .book .result)) _ e _ (n .note .ensures .1) _ refl _ (n .note .ensures .0)
 
 loop-less : tie.Need-loop-less Inv-loop μ-loop
 loop-less c =
     let n = c .before .before in
     let a = A (D n) in
-    booked-less (T a) (t a) (m a) (o₀ a) (L a) (given a .2) (a .loop .now) (a .loop .at) (a .loop .y) (l a) (a .loop .out) (a .loop .inv)
-    (K n .le4 .result) (E2 n .before .le2 .result) (E2 n .le22 .result) (K n .le4 .ensures .0) (E2 n .before .le2 .ensures .0) (E2 n .le22 .ensures .0)
-    (due (D n) .0) (subst⁻¹ (λ (x : ℕ). x ≤ a .loop .now) (K n .le4 .ensures .0) (due (D n) .1)) (arrivalPaper (B n .book .result)) _ (B n .book .ensures (St a .args .quanta .now) (a .loop .deficits) (a .loop .spot))
+    let e = B n .book .ensures (S (K a) .args .table .quanta) (a .loop .deficits) (a .loop .spot) in
+    booked-less (here a) _ _ _ (E4 n .le4 .ensures .0) (E2 n .before .le2 .ensures .0) (E2 n .le22 .ensures .0) (come (D n) .0) (has n)
+    (arrivalPaper (B n .book .result)) _ e
 
 -- ---- a pick: the place before it
 abbrev J : tie.After-pick-in Inv-loop μ-loop → tie.Else1 Inv-loop μ-loop
-J p = p .before .before .before .before
+J p = p .before .before .before .before .before .before
 
 -- .. it sends
 module _ (G : tie.After-answer Inv-loop μ-loop) where
@@ -127,28 +158,23 @@ module _ (G : tie.After-answer Inv-loop μ-loop) where
   told : pickPaper (P .pick-in .result .answer) ≡ sentAs f len d v
   told = ap pickPaper (G .answer .given .1)
 
-  most : len ≤ 9216
-  most =
-      given-most (T A₁) (t A₁) (m A₁) (o₀ A₁) (L A₁) (given A₁ .2) (A₁ .loop .now) (A₁ .loop .at) (A₁ .loop .y) (l A₁) (A₁ .loop .out) (A₁ .loop .inv)
-      (later (J P)) (pickPaper (P .pick-in .result .answer)) _ (P .pick-in .ensures) f len d v told
+  most : len ≤ mostMaximum
+  most = given-most (here A₁) (later (J P)) _ _ (P .pick-in .ensures) f len d v told
 
 loop-again-3 : tie.Need-loop-again-3 Inv-loop μ-loop
 loop-again-3 c =
     let q = c .before .before .before in
     let g = q .before .before .before in
-    let a = A₁ g in
-    rw (c .wide .ensures)
-    (sends (T a) (t a) (m a) (o₀ a) (L a) (given a .2) (a .loop .now) (a .loop .at) (a .loop .y) (l a) (a .loop .out) (a .loop .inv)
-    (later (J (P g))) (pickPaper (P g .pick-in .result .answer)) _ (P g .pick-in .ensures) (f g) (len g) (d g) (v g) (told g) (len g) refl
+    rw (c .usize-of-u32 .ensures .0)
+    (sends (here (A₁ g)) (later (J (P g))) _ _ (P g .pick-in .ensures) (f g) (len g) (d g) (v g) (told g) (len g) refl
     (d g) (v g) refl refl _ (q .send-line .ensures .1) _ (q .send-line .ensures .0))
 
 loop-less-3 : tie.Need-loop-less-3 Inv-loop μ-loop
 loop-less-3 c =
     let q = c .before .before .before in
     let g = q .before .before .before in
-    let a = A₁ g in
-    sent-less (T a) (t a) (m a) (o₀ a) (L a) (given a .2) (a .loop .now) (a .loop .at) (a .loop .y) (l a) (a .loop .out) (a .loop .inv)
-    (later (J (P g))) (pickPaper (P g .pick-in .result .answer)) _ (P g .pick-in .ensures) (f g) (len g) (d g) (v g) (told g) (c .wide .result) (c .wide .ensures)
+    sent-less (here (A₁ g)) (later (J (P g))) _ _ (P g .pick-in .ensures) (f g) (len g) (d g) (v g) (told g) _
+    (c .usize-of-u32 .ensures .0)
 
 -- .. it is idle
 module _ (k : tie.At-match-keys2 Inv-loop μ-loop) where
@@ -159,19 +185,22 @@ module _ (k : tie.At-match-keys2 Inv-loop μ-loop) where
   A₂ = J P₂ .before .before
 
   abbrev l₂ : Line
-  l₂ = lineOf (P₂ .pick-in .last .1 .1 .1 .0) (P₂ .pick-in .last .1 .1 .1 .1 .0) (P₂ .pick-in .last .1 .1 .1 .1 .1 .0) (P₂ .pick-in .result .spot)
+  l₂ =
+      let e = P₂ .pick-in .last .1 .1 .1 in
+      lineOf (e .0) (e .1 .0) (e .1 .1 .0) (P₂ .pick-in .result .spot)
 
-  idles : outcome idle l₂ ≡ pickOf (T A₂) (l A₂)
-  idles = not-sent (T A₂) (l A₂) (P₂ .pick-in .result .answer) l₂ (P₂ .pick-in .ensures) (k .match .keys2)
+  idles : outcome idle l₂ ≡ pickOf (T (K A₂)) (l A₂)
+  idles = not-sent (T (K A₂)) (l A₂) (P₂ .pick-in .result .answer) l₂ (P₂ .pick-in .ensures) (k .match .keys2)
 
 returns : tie.Need-returns Inv-loop μ-loop
 returns c =
     let q = c .before .before in
     let e = q .before .before .before in
     let k = e .before in
-    let a = A₂ k in
-    run-ends (T a) (t a) (m a) (o₀ a) (L a) (given a .2) (a .loop .now) (a .loop .at) (a .loop .y) (l a) (a .loop .out) (a .loop .inv)
-    (later (J (P₂ k))) (l₂ k) (idles k) (e .if2 .taken) _ (q .put-line .ensures)
+    let s = S (K (A₂ k)) in
+    run-ends (here (A₂ k)) (later (J (P₂ k))) (l₂ k) (idles k) (e .if2 .taken) _ (q .put-line .ensures)
+    ∙ (λ i. eventsListing (table-is (K (A₂ k)) i) (eventsFrom (s .args .t .now) 0 (s .args .m))
+    ++ drop (6 * (s .args .m + 1)) (s .args .out .now))
 
 module _ (g : tie.After-le42 Inv-loop μ-loop) where
   abbrev K₂ : tie.At-match-keys2 Inv-loop μ-loop
@@ -183,24 +212,17 @@ module _ (g : tie.After-le42 Inv-loop μ-loop) where
 loop-again-2 : tie.Need-loop-again-2 Inv-loop μ-loop
 loop-again-2 g =
     let k = K₂ g in
-    let a = A₂ k in
-    rw (g .le42 .ensures .0)
-    (inside-jumps (T a) (t a) (m a) (o₀ a) (L a) (given a .2) (a .loop .now) (a .loop .at) (a .loop .y) (l a) (a .loop .out) (a .loop .inv)
-    (later (J (P₂ k))) (l₂ k) (idles k) (more g) (rw (g .le42 .ensures .0) at (g .le42 .ensures .1)))
+    let small = rw (g .le42 .ensures .0) at (g .le42 .ensures .1) in
+    rw (g .le42 .ensures .0) (inside-jumps (here (A₂ k)) (later (J (P₂ k))) (l₂ k) (idles k) (more g) small)
 
 loop-less-2 : tie.Need-loop-less-2 Inv-loop μ-loop
-loop-less-2 g =
-    let k = K₂ g in
-    let a = A₂ k in
-    rw (g .le42 .ensures .0)
-    (jumps-less (T a) (t a) (m a) (o₀ a) (L a) (given a .2) (a .loop .now) (a .loop .at) (a .loop .y) (l a) (a .loop .out) (a .loop .inv)
-    (later (J (P₂ k))) (l₂ k) (idles k) (more g))
+loop-less-2 g = let k = K₂ g in rw (g .le42 .ensures .0) (jumps-less (here (A₂ k)) (later (J (P₂ k))) (l₂ k) (idles k) (more g))
 
 -- ---- indices and sums
 within : (a : tie.At-loop Inv-loop μ-loop) → a .loop .at < m a → 8 * a .loop .at + 8 ≤ length (t a)
 within a more = omega (arith, given a .0)
 
-small : (a : tie.At-loop Inv-loop μ-loop) → a .loop .at ≤ 1024
+small : (a : tie.At-loop Inv-loop μ-loop) → a .loop .at ≤ mostEvents
 small a = omega (arith, a .loop .inv .at-most, given a .1)
 
 now-small : (a : tie.At-loop Inv-loop μ-loop) → a .loop .now ≤ 4304404480
@@ -208,9 +230,10 @@ now-small a = omega (arith, a .loop .inv .now-most, few a)
 
 loop-holds : tie.Need-loop-holds Inv-loop μ-loop
 loop-holds c =
-    let s = c .before .before .before .before in
+    let k = c .before .before .before .before .before in
+    let s = S k in
     rw (c .no-lines .ensures, c .before .closed-at .ensures)
-    (inside-first (tableOf (s .args .n) (s .args .quanta .now) (s .args .maxima .now)) (s .args .t .now) (s .args .m) (s .args .out .now) (s .pre .1 .0 .0))
+    (inside-first (T k) (s .args .t .now) (s .args .m) (s .args .out .now) (ranged k))
 
 same-length : tie.Need-same-length Inv-loop μ-loop
 same-length c =
@@ -224,26 +247,27 @@ run-events-spec =
     (tie.spec
     Inv-loop
     μ-loop
-    (λ c. c .before .before .pre .1 .0 .1)
+    (λ c κs. search needs)
+    (λ c. some-flow (c .before .before .before))
     (λ c κs. _)
     (λ c κs. _)
     loop-holds
     (λ c κs. (given c .0, given c .1))
     (λ c. omega (arith, small (A c)))
-    (λ c κs. omega (arith, within (A c) (due c .0)))
+    (λ c κs. omega (arith, within (A c) (come c .0)))
     (λ c. omega (arith, small (A (c .before))))
     (λ c. omega (arith, small (A (c .before))))
-    (λ c κs. omega (arith, within (A (c .before)) (due (c .before) .0)))
+    (λ c κs. omega (arith, within (A (c .before)) (come (c .before) .0)))
     (λ c. omega (arith, small (A (c .before .before))))
     (λ c. omega (arith, small (A (c .before .before))))
-    (λ c κs. omega (arith, within (A (c .before .before)) (due (c .before .before) .0)))
-    (λ c. omega (arith, c .before .before .le22 .ensures .1))
-    (λ c κs. sound-bookable (A (c .before .before .before .before .before) .loop .inv .sound))
-    (λ c κs. let a = A (c .before .before .before .before .before .before .before) in (fits a, few a))
+    (λ c κs. omega (arith, within (A (c .before .before)) (come (c .before .before) .0)))
+    (λ c. omega (arith, c .before .before .before .le22 .ensures .1))
+    (λ c κs. sound-bookable (A (c .before .before .before .before .before .before) .loop .inv .sound))
+    (λ c κs. let a = A (c .before .before .before .before .before .before .before .before) in (fits a, few a))
     (λ c. omega (arith, small (A (D (c .before .before)))))
     loop-less
     loop-again
-    (λ c κs. c .before .before .before .before .before .loop .inv .sound)
+    (λ c κs. c .before .before .before .before .before .before .before .loop .inv .sound)
     (λ c. search needs)
     (λ c. omega (arith, few (A₂ (c .before .before .before))))
     (λ c κs. let a = A₂ (c .before .before .before) in (fits a, few a))
@@ -255,6 +279,7 @@ run-events-spec =
     loop-again-2
     (λ c κs. let g = c .before .before in let a = A₁ g in ((fits a, few a), omega (arith, now-small a, most g)))
     (λ c κs. _)
-    (λ c. let g = c .before .before .before .before .before .before in omega (arith, now-small (A₁ g), most g, c .wide .ensures))
+    (λ c. let g = c .before .before .before .before .before .before in
+    omega (arith, now-small (A₁ g), most g, c .usize-of-u32 .ensures .0))
     loop-less-3
     loop-again-3)

@@ -13,10 +13,13 @@ returns c =
     let w3 = p .before in
     let w2 = w3 .before in
     let w = w2 .before .before .before in
-    let a = w .before .before .args in (
-      ap (λ (x : ℕ). tally (a .y .sent + 1) (a .y .refused) (a .start + x)) (w .wide .ensures),
+    let a = w .before .before .args in
+    let len = w .usize-of-u32 .ensures .0 in
+    let deficit = w2 .usize-of-u322 .ensures .0 in
+    let visits = w3 .usize-of-u323 .ensures .0 in (
+      ap (λ (x : ℕ). tally (a .y .sent + 1) (a .y .refused) (a .start + x)) len,
       p .put-line .ensures
-          ∙ (λ j. written (a .out .now) (a .y .sent + a .y .refused) (1 ∷ a .start ∷ a .flow ∷ w .wide .ensures j ∷ w2 .wide2 .ensures j ∷ w3 .wide3 .ensures j ∷ [])),
+          ∙ (λ j. written (a .out .now) (a .y .sent + a .y .refused) (1 ∷ a .start ∷ a .flow ∷ len j ∷ deficit j ∷ visits j ∷ [])),
     )
 
 pub send-line-spec : {M : Type 1} → statement M
@@ -29,6 +32,7 @@ send-line-spec =
     (λ c κs. _)
     (λ c κs. search needs)
     (λ c. search needs)
-    (λ c. let w = c .before .before .before .before .before .before .before .before in omega (arith, w .before .before .pre .1, w .wide .ensures))
+    (λ c. let w = c .before .before .before .before .before .before .before .before in
+    omega (arith, w .before .before .pre .1, w .usize-of-u32 .ensures .0))
     (λ c. search needs)
     returns)

@@ -1,0 +1,69 @@
+//! Calls the proved library's run on all generated files, and compares the refusal, its place and the
+//! whole lent list with the second program's: with a list for the longest run, and for a file that is
+//! not refused also with one just long enough and one a number short.
+
+mod drr;
+mod proved;
+
+use proved::Fault;
+
+/// Room for 1,025 lines of six numbers.
+const LONGEST: usize = 6 * 1_025;
+
+/// What a lent list holds beforehand, and no line has.
+const LEFT: u64 = u64::MAX;
+
+/// An answer, and the lent list after the run.
+type Ran = (Fault, Vec<u64>);
+
+fn by_proved(file: &[u8], room: usize) -> Ran {
+    let mut list = vec![LEFT; room];
+    (proved::run(file, &mut list), list)
+}
+
+fn by_second(file: &[u8], room: usize) -> Ran {
+    let mut list = vec![LEFT; room];
+    let (refusal, place) = match drr::run(file, room) {
+        Ok(lines) => {
+            let numbers = lines.concat();
+            list[..numbers.len()].copy_from_slice(&numbers);
+            (0, 0)
+        }
+        Err(refused) => (refused.number, refused.place),
+    };
+    (Fault { refusal, place }, list)
+}
+
+fn main() {
+    let (mut runs, mut differ) = (0, 0);
+    let mut seen = [0; 15];
+    for file in files::all() {
+        let mut rooms = vec![LONGEST];
+        if let Ok(lines) = drr::run(&file.bytes, LONGEST) {
+            rooms.extend([6 * lines.len(), 6 * lines.len() - 1]);
+        }
+        for room in rooms {
+            let given = by_proved(&file.bytes, room);
+            let own = by_second(&file.bytes, room);
+            runs += 1;
+            seen[own.0.refusal as usize] += 1;
+            if given != own {
+                differ += 1;
+                let same_list = given.1 == own.1;
+                println!(
+                    "{}, room {room}: proved {:?}, second {:?}, the same list: {same_list}",
+                    file.name, given.0, own.0
+                );
+            }
+        }
+    }
+    println!("refusals 0 to 14 given to runs: {seen:?}");
+    println!("{runs} runs compared, {differ} differ");
+    // 1 to 4 are lines of a listing, and no call of a run has 8
+    let all_seen = [0, 5, 6, 7, 9, 10, 11, 12, 13, 14]
+        .iter()
+        .all(|&number: &usize| seen[number] > 0);
+    if differ > 0 || !all_seen {
+        std::process::exit(1);
+    }
+}
