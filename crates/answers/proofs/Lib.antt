@@ -1,4 +1,4 @@
 -- Laws that several functions' proofs cite.
 pub mod Given
 pub mod Shown
-pub mod Rows
+pub mod FlowLines

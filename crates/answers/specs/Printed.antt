@@ -22,13 +22,13 @@ unfoldable pub runText : List ℕ → List ℕ
 runText b = answerText (fileAnswer b) (listingText (runListing b))
 
 -- `drrfigures`, of a flow: flow, quantum, maximum, C, wait, and owed of each number of bytes
-abbrev pub flowRow : Table → List ℕ → ℕ → List ℕ
-flowRow T sizes f = f ∷ quantumOf T f ∷ maximumOf T f ∷ lag T f ∷ wait T f ∷ map (owed T f) sizes
+abbrev pub flowFigures : Table → List ℕ → ℕ → List ℕ
+flowFigures T sizes f = f ∷ quantumOf T f ∷ maximumOf T f ∷ lag T f ∷ wait T f ∷ map (owed T f) sizes
 
 -- a line for each of k flows, from the flow f on
 abbrev pub flowLines : Table → List ℕ → ℕ → ℕ → List ℕ
 flowLines T sizes f zero = []
-flowLines T sizes f (suc k) = numbersText (flowRow T sizes f) ++ flowLines T sizes (f + 1) k
+flowLines T sizes f (suc k) = numbersText (flowFigures T sizes f) ++ flowLines T sizes (f + 1) k
 
 -- a line for each flow of the file's table; "later programs [keep] the `R` line"
 unfoldable pub figuresText : List ℕ → List ℕ → List ℕ

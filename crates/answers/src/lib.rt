@@ -10,7 +10,7 @@ ghost use Rattle.io.specs.Counts.{Counts};
 ghost use Rattle.drr.specs.Facts.{SoundState};
 ghost use Rattle.drr.specs.Answers.{numberOf};
 ghost use Rattle.text.specs.Text.{refusalWithin, numbersText, overlaid};
-ghost use Rattle.answers.specs.Printed.{flowRow, flowLines, runTextWithin, figuresTextWithin};
+ghost use Rattle.answers.specs.Printed.{flowFigures, flowLines, runTextWithin, figuresTextWithin};
 
 // The line of a refusal, which asks for 44 bytes.
 fn refusal_line(why: Refusal, place: usize, buf: &mut [u8]) -> usize
@@ -44,7 +44,7 @@ pub fn run_text(file: &[u8], buf: &mut [u8]) -> usize
 // The line of a flow of a sound state.
 fn put_flow(s: State, flow: usize, sizes: &[u32], buf: &mut [u8]) -> usize
     requires { ⌜ SoundState s × (flow < s .table .n) × (length (now sizes) ≤ 16) × (441 ≤ length (now buf)) ⌝ }
-    ensures { λ r. ⌜ (let text = numbersText (flowRow (s .table) (now (sizes .entry)) flow) in
+    ensures { λ r. ⌜ (let text = numbersText (flowFigures (s .table) (now (sizes .entry)) flow) in
         (r ≡ length text) × (now (buf .exit) ≡ overlaid text (now (buf .entry)))) ⌝ }
 {
     let mut list = [0u64; 21];

@@ -42,7 +42,7 @@ use Rattle.drr.proofs.Paper.{listing-runs, listing-runs-only, listing-starts}
 use Rattle.figures.proofs.Vectors.{Every, marked, p1-to-p12}
 use Rattle.runfile.proofs.Claims as run-claims
 use Rattle.runfile.proofs.Counts.{act-is-call}
-use Rattle.claims.proofs.Shown.{shown}
+use Rattle.answers.proofs.Shown.{shown}
 
 -- ==== DEMAND 1: any numbers, any state; a refusal hands back what it was given
 -- every State that the code can hold has its arrays' lengths, and with them the soundness test is true exactly where the facts hold

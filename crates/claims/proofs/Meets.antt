@@ -58,6 +58,10 @@ use Rattle.text.proofs.numbers_text.Statement as numbers-text
 use Rattle.text.proofs.numbers_text.Met as numbers-text-met
 use Rattle.text.proofs.word_of.Statement as word-of
 use Rattle.text.proofs.word_of.Met as word-of-met
+use Rattle.answers.proofs.run_text.Statement as run-text
+use Rattle.answers.proofs.run_text.Met as run-text-met
+use Rattle.answers.proofs.figures_text.Statement as figures-text
+use Rattle.answers.proofs.figures_text.Met as figures-text-met
 use Rattle.exports.proofs.wikulambag_setup.Statement as told-setup
 use Rattle.exports.proofs.wikulambag_setup.Met as told-setup-met
 use Rattle.exports.proofs.wikulambag_sound.Statement as told-sound
@@ -165,6 +169,13 @@ numbers-text-meets = numbers-text-met.met
 
 pub word-of-meets : {M : Type 1} → word-of.statement M
 word-of-meets = word-of-met.met
+
+-- ---- what the programs print: any bytes, and any lent buffer
+pub run-text-meets : {M : Type 1} → run-text.statement M
+run-text-meets = run-text-met.met
+
+pub figures-text-meets : {M : Type 1} → figures-text.statement M
+figures-text-meets = figures-text-met.met
 
 -- ---- the functions for other languages
 pub told-setup-meets : {M : Type 1} → told-setup.statement M

@@ -55,6 +55,8 @@ use Rattle.text.proofs.listing_text.Reads as of-listing-text
 use Rattle.text.proofs.refusal_text.Reads as of-refusal-text
 use Rattle.text.proofs.numbers_text.Reads as of-numbers-text
 use Rattle.text.proofs.word_of.Reads as of-word-of
+use Rattle.answers.proofs.run_text.Reads as of-run-text
+use Rattle.answers.proofs.figures_text.Reads as of-figures-text
 use Rattle.exports.proofs.wikulambag_setup.Reads as told-setup
 use Rattle.exports.proofs.wikulambag_arrival.Reads as told-arrival
 use Rattle.exports.proofs.wikulambag_pick.Reads as told-pick
@@ -198,6 +200,16 @@ one-numbers-text κs a r t x y p q = (p .0 ∙ sym (q .0), p .1 ∙ sym (q .1))
 
 pub one-word-of : (κs : _) (a : _) (r t : Word) (x y : _) → of-word-of.Post κs a r x → of-word-of.Post κs a t y → r ≡ t
 one-word-of κs a r t x y p q = p ∙ sym (q)
+
+-- ---- what the programs print
+
+pub one-run-text : (κs : _) (a : _) (r t : ℕ) (x y : _) → of-run-text.Post κs a r x → of-run-text.Post κs a t y →
+    (r ≡ t) × (x .1 .0 .now ≡ y .1 .0 .now)
+one-run-text κs a r t x y p q = (p .0 ∙ sym (q .0), p .1 .0 ∙ sym (q .1 .0))
+
+pub one-figures-text : (κs : _) (a : _) (r t : ℕ) (x y : _) → of-figures-text.Post κs a r x → of-figures-text.Post κs a t y →
+    (r ≡ t) × (x .1 .1 .0 .now ≡ y .1 .1 .0 .now)
+one-figures-text κs a r t x y p q = (p .0 ∙ sym (q .0), p .1 .0 ∙ sym (q .1 .0))
 
 -- ---- the functions for other languages
 

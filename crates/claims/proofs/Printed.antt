@@ -1,4 +1,4 @@
--- What `drrrun` prints, as theorems: of any file, and of document 01's run in full.
+-- What `drrrun` prints of document 01's run in full, as a theorem about its 92 bytes.
 use mathlib.Core.Path.{_≡_, refl}
 use mathlib.Core.List.{List, [], _∷_}
 use Prim.Native.Nat.{ℕ}
@@ -11,17 +11,6 @@ use Rattle.runfile.specs.Run.{calls}
 use Rattle.runfile.specs.Listing.{listing, runListing}
 use Rattle.text.specs.Text.{places, decimal, kinds, lineText, listingText, refusalText}
 use Rattle.answers.specs.Printed.{runText}
-use Rattle.answers.proofs.run_text.Statement as run-text-says
-use Rattle.answers.proofs.run_text.Met as run-text-met
-use Rattle.answers.proofs.figures_text.Statement as figures-text-says
-use Rattle.answers.proofs.figures_text.Met as figures-text-met
-
--- any bytes, and any lent buffer
-pub run-text-meets : {M : Type 1} → run-text-says.statement M
-run-text-meets = run-text-met.met
-
-pub figures-text-meets : {M : Type 1} → figures-text-says.statement M
-figures-text-meets = figures-text-met.met
 
 -- ---- "A run in full": its 92 bytes
 -- "Tables at 20 and 44, length 92. Flows: 0 has Q 500, l 800; 1 has 300, 800; 2 has 400, 600."

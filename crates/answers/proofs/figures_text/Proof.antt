@@ -9,7 +9,7 @@ use Rattle.drr.specs.Facts.{SoundState}
 use Rattle.drr.specs.Answers.{Answer, Reply, verdictPaper}
 use Rattle.runfile.specs.File.{flowsReply}
 use Rattle.answers.proofs.Given.{given, figures-short, figures-many, figures-fit, refusal-fits}
-use Rattle.answers.proofs.Rows.{flows-sound, figures-refusal, figures-lines}
+use Rattle.answers.proofs.FlowLines.{flows-sound, figures-refusal, figures-lines}
 use Rattle.answers.proofs.figures_text.Statement.{statement}
 use Rattle.answers.proofs.figures_text.Tie as tie
 

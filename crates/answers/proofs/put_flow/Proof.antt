@@ -4,7 +4,7 @@ use Rattle.io.specs.Counts.{Counts}
 use Rattle.figures.specs.Answers.{figuresWithin}
 use Rattle.text.proofs.Texts.{counted}
 use Rattle.answers.proofs.Given.{as-text}
-use Rattle.answers.proofs.Rows.{row-text}
+use Rattle.answers.proofs.FlowLines.{row-text}
 use Rattle.answers.proofs.put_flow.Statement.{statement}
 use Rattle.answers.proofs.put_flow.Tie as tie
 

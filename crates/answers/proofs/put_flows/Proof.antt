@@ -8,8 +8,8 @@ use Rattle.drr.specs.declared.Table.{Table}
 use Rattle.text.specs.Text.{numbersText, Put}
 use Rattle.text.proofs.Texts.{Left, left-next, left-end, put-none, filled}
 use Rattle.text.proofs.Lines.{to-end}
-use Rattle.answers.specs.Printed.{flowRow, flowLines}
-use Rattle.answers.proofs.Rows.{row-most, flows-first, flows-next, flows-last, part-put}
+use Rattle.answers.specs.Printed.{flowFigures, flowLines}
+use Rattle.answers.proofs.FlowLines.{row-most, flows-first, flows-next, flows-last, part-put}
 use Rattle.answers.proofs.put_flows.Statement.{statement}
 use Rattle.answers.proofs.put_flows.Tie as tie
 
@@ -48,7 +48,7 @@ module _ (c : tie.In-loop Inv-loop μ-loop) where
   at = c .before .loop .at
 
   abbrev line : List ℕ
-  line = numbersText (flowRow (T z) (sizes z) (c .before .loop .flow))
+  line = numbersText (flowFigures (T z) (sizes z) (c .before .loop .flow))
 
   fits : at + 441 ≤ length b
   fits = omega (arith, c .before .loop .inv .1, c .before .loop .inv .2 .size, c .loop-test .taken, few-flows z, z .pre .2)

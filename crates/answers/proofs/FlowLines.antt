@@ -22,11 +22,11 @@ use Rattle.figures.specs.Answers.{askedAnswer, figureIs, valueOf, allFigures, f
 use Rattle.text.specs.Text.{refusalText, numbersText, numbersWithin, Put}
 use Rattle.text.proofs.Texts.{Left, left-all, Filled}
 use Rattle.text.proofs.Lines.{to-end, numbers-most}
-use Rattle.answers.specs.Printed.{flowRow, flowLines, figuresText}
+use Rattle.answers.specs.Printed.{flowFigures, flowLines, figuresText}
 use Rattle.answers.proofs.Given.{refused-text, fine-text}
 
-row-length : (T : Table) (sizes : List ℕ) (f : ℕ) → length (flowRow T sizes f) ≡ 5 + length sizes
-row-length T sizes f = omega (arith, length-map sizes (owed T f))
+figures-length : (T : Table) (sizes : List ℕ) (f : ℕ) → length (flowFigures T sizes f) ≡ 5 + length sizes
+figures-length T sizes f = omega (arith, length-map sizes (owed T f))
 
 -- ---- the figures of a flow of a sound state, in a list of 21 numbers
 module _ (s : State) (ok : SoundState s) (f : ℕ) (below : f < s .table .n) where
@@ -40,36 +40,36 @@ module _ (s : State) (ok : SoundState s) (f : ℕ) (below : f < s .table .n) whe
   each-fine (S ∷ more) = λ i. asked-fine (owed (s .table) f S) i ∷ each-fine more i
 
   module _ (sizes : List ℕ) (few : length sizes ≤ 16) where
-    row-is : figuresWithin s f sizes 21 ≡ flowRow (s .table) sizes f
+    line-is : figuresWithin s f sizes 21 ≡ flowFigures (s .table) sizes f
     unfolding figuresWithin
-    row-is =
+    line-is =
         let enough : 5 + length sizes ≤ 21 = omega arith in
         let wide : figuresWithin s f sizes 21 ≡ allFigures s f sizes = rw (le-ltb 21 (5 + length sizes) enough) in
-        let front : ℕ → ℕ → List ℕ → List ℕ = λ c w more. take 3 (flowRow (s .table) sizes f) ++ c ∷ w ∷ more in
+        let front : ℕ → ℕ → List ℕ → List ℕ = λ c w more. take 3 (flowFigures (s .table) sizes f) ++ c ∷ w ∷ more in
         wide ∙ (λ i. front (asked-fine (lag (s .table) f) i) (asked-fine (wait (s .table) f) i) (each-fine sizes i))
 
     -- its text, in a buffer with room for 21 numbers
     pub row-text : (out list : List ℕ) (n room : ℕ) → Filled (figuresWithin s f sizes 21) out list n → 441 ≤ room →
-        numbersWithin (take n list) room ≡ numbersText (flowRow (s .table) sizes f)
+        numbersWithin (take n list) room ≡ numbersText (flowFigures (s .table) sizes f)
     unfolding numbersWithin
     row-text out list n room p h =
         let w : List ℕ = figuresWithin s f sizes 21 in
-        let taken : take n list ≡ flowRow (s .table) sizes f =
-        (λ i. take (p .0 i) (p .1 i)) ∙ take-append-seam w (drop (length w) out) ∙ row-is in
-        let fits : length (flowRow (s .table) sizes f) ≤ room / 21 = omega (arith, row-length (s .table) sizes f) in
-        rw (taken, le-ltb (room / 21) (length (flowRow (s .table) sizes f)) fits)
+        let taken : take n list ≡ flowFigures (s .table) sizes f =
+        (λ i. take (p .0 i) (p .1 i)) ∙ take-append-seam w (drop (length w) out) ∙ line-is in
+        let fits : length (flowFigures (s .table) sizes f) ≤ room / 21 = omega (arith, figures-length (s .table) sizes f) in
+        rw (taken, le-ltb (room / 21) (length (flowFigures (s .table) sizes f)) fits)
 
 -- ---- the lines: 441 bytes for each are enough
 module _ (T : Table) (sizes : List ℕ) where
-  pub row-most : length sizes ≤ 16 → (f : ℕ) → length (numbersText (flowRow T sizes f)) ≤ 441
-  row-most few f = omega (arith, numbers-most (flowRow T sizes f), row-length T sizes f)
+  pub row-most : length sizes ≤ 16 → (f : ℕ) → length (numbersText (flowFigures T sizes f)) ≤ 441
+  row-most few f = omega (arith, numbers-most (flowFigures T sizes f), figures-length T sizes f)
 
   lines-most : length sizes ≤ 16 → (f k : ℕ) → length (flowLines T sizes f k) ≤ 441 * k
   lines-most few f zero = omega arith
   lines-most few f (suc k) =
       omega (
         arith,
-        length-append (numbersText (flowRow T sizes f)) (flowLines T sizes (f + 1) k),
+        length-append (numbersText (flowFigures T sizes f)) (flowLines T sizes (f + 1) k),
         row-most few f,
         lines-most few (f + 1) k,
       )
@@ -83,7 +83,7 @@ module _ (T : Table) (sizes : List ℕ) where
       (left-all b 0 (flowLines T sizes 0 n) (omega (arith, lines-most few 0 n)))
 
   pub flows-next : (n f : ℕ) → f < n →
-      flowLines T sizes f (n - f) ≡ numbersText (flowRow T sizes f) ++ flowLines T sizes (f + 1) (n - (f + 1))
+      flowLines T sizes f (n - f) ≡ numbersText (flowFigures T sizes f) ++ flowLines T sizes (f + 1) (n - (f + 1))
   flows-next n f h =
       let j : ℕ = n - (f + 1) in
       let e : n - f ≡ suc j = omega arith in
