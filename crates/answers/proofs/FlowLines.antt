@@ -6,7 +6,7 @@ use native.Mathlib.Omega.{arith}
 use borrow.Author.Tests.{le-ltb, lt-leb}
 use lib.Dec.{eqb}
 use lib.ListN.{length, take, drop, length-append, length-drop, length-map}
-use lib.Seq.{sets, sets-eq, take-append-seam, drop-drop, drop-length}
+use lib.Seq.{sets-eq, take-append-seam, drop-drop, drop-length}
 use Rattle.drr.specs.declared.State.{State}
 use Rattle.drr.specs.declared.Table.{Table}
 use Rattle.drr.specs.declared.Refusal.{Refusal}

@@ -5,7 +5,7 @@ use mathlib.Core.List.{List, [], _∷_, _++_}
 use mathlib.Core.Logic.{⊎-elim}
 use Prim.Native.Nat.{ℕ, _+_, _*_, _≤_}
 use native.Mathlib.Omega.{arith}
-use borrow.Author.Tests.{le-ltb, eqb-true, eq-eqb}
+use borrow.Author.Tests.{le-ltb, eqb-true}
 use lib.Dec.{eqb}
 use lib.ListN.{length, drop}
 use Rattle.drr.specs.declared.Table.{Table}
@@ -22,7 +22,7 @@ use Rattle.drr.proofs.Demand3.{calls-keep}
 use Rattle.runfile.specs.declared.turns.Tally.{Tally}
 use Rattle.runfile.specs.File.{eventCount, fileAnswer, runAnswer}
 use Rattle.runfile.specs.Run.{Act, comes, asks, callIn, outcomeOf, tableIn, runCalls}
-use Rattle.runfile.specs.Listing.{tally, dropLine, startLine, lineFor, afterAct, listing, runListing, filled}
+use Rattle.runfile.specs.Listing.{tally, startLine, lineFor, afterAct, listing, runListing, filled}
 use Rattle.runfile.proofs.Files.{file-laid}
 use Rattle.runfile.proofs.Claims.{file-sound}
 use Rattle.text.specs.Text.{lineText, listingText, refusalText}

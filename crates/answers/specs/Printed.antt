@@ -1,11 +1,11 @@
 -- What the two programs print, by the bytes of the file that they read.
 use Prim.Native.Nat.{ℕ, zero, suc, _+_}
-use mathlib.Core.Bool.{cond, _||_}
+use mathlib.Core.Bool.{cond}
 use mathlib.Core.List.{List, [], _∷_, _++_, map}
 use lib.Dec.{ltb, eqb}
 use lib.ListN.{length, getD}
 use Rattle.drr.specs.declared.Table.{Table}
-use Rattle.drr.specs.Answers.{Answer, Reply}
+use Rattle.drr.specs.Answers.{Answer}
 use Rattle.drr.specs.State.{quantumOf, maximumOf}
 use Rattle.drr.specs.Figures.{lag, owed, wait}
 use Rattle.runfile.specs.File.{fileAnswer, flowsReply}

@@ -6,7 +6,7 @@ use mathlib.Core.Bool.{true}
 use mathlib.Core.List.{List, [], _∷_, _++_}
 use mathlib.Core.Logic.{_↔_, _≢_}
 use Prim.Native.Nat.{ℕ, _+_, _*_, _-_, _/_, _≤_, _<_}
-use lib.ListN.{length, drop}
+use lib.ListN.{length}
 use mir.Val.{Val}
 use denote.Laws.{Is}
 use Rattle.drr.specs.declared.Table.{Table}
@@ -42,7 +42,7 @@ use Rattle.drr.proofs.Paper.{listing-runs, listing-runs-only, listing-starts}
 use Rattle.figures.proofs.Vectors.{Every, marked, p1-to-p12}
 use Rattle.runfile.proofs.Claims as run-claims
 use Rattle.runfile.proofs.Counts.{act-is-call}
-use Rattle.answers.proofs.Shown.{shown}
+use Rattle.answers.proofs.Shown as printed
 
 -- ==== DEMAND 1: any numbers, any state; a refusal hands back what it was given
 -- every State that the code can hold has its arrays' lengths, and with them the soundness test is true exactly where the facts hold
@@ -211,5 +211,4 @@ module _ (b : List ℕ) (ok : fileAnswer b .refusal ≡ 0) where
 
   -- what is printed of the list after the run: the listing's text, whatever stands behind it
   pub run-printed : (out : List ℕ) → runAnswer b (length out) .refusal ≡ 0 → listingText (filled b out) ≡ listingText (runListing b)
-  unfolding filled
-  run-printed out e = rw e (shown T (runCalls b) fresh (tally 0 0 0) (drop (6 * (eventCount b + 1)) out) (run-stays-sound []))
+  run-printed out = printed.run-printed b out ok

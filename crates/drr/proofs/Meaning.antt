@@ -9,7 +9,7 @@ use lib.Seq.{ext-getD, getD-take, length-take-le}
 use Rattle.drr.specs.declared.Table.{Table}
 use Rattle.drr.specs.declared.State.{State}
 use Rattle.drr.specs.Limits.{mostFlows, mostWaiting}
-use Rattle.drr.specs.State.{Line, quantumOf, maximumOf, deficitOf, waitingOf, rowOf, lengthsIn, lineIn, stateFrom}
+use Rattle.drr.specs.State.{Line, deficitOf, waitingOf, rowOf, lengthsIn, lineIn, stateFrom}
 use Rattle.drr.specs.Facts.{Ranged, Sound, SoundState, SameTable, SameMeaning}
 use Rattle.drr.proofs.Bools.{below?}
 use Rattle.drr.proofs.States.{state-back}

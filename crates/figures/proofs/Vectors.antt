@@ -84,10 +84,10 @@ module _ {T : Table} (r : Ranged T) (i : ℕ) (low : i < T .n) where
   some : 0 < allQuanta T
   some = quanta-some T i low (r .quantum-in i low .0)
 
-  waits : {v : ℕ} → lag T i / quantumOf T i + 1 ≡ v → wait T i ≡ v
+  pub waits : {v : ℕ} → lag T i / quantumOf T i + 1 ≡ v → wait T i ≡ v
   waits is = wait-formula T i some (r .quantum-in i low .0) ∙ is
 
-  owes : (S : ℕ) {v : ℕ} → (quantumOf T i * S - lag T i + (allQuanta T - 1)) / allQuanta T ≡ v → owed T i S ≡ v
+  pub owes : (S : ℕ) {v : ℕ} → (quantumOf T i * S - lag T i + (allQuanta T - 1)) / allQuanta T ≡ v → owed T i S ≡ v
   owes S is = owed-formula T i some S ∙ is
 
 worked-ranged : Ranged (tableFor worked)

@@ -4,7 +4,6 @@ use Prim.Native.Nat.{ℕ, _≤_}
 use native.Mathlib.Omega.{arith}
 use borrow.Author.Needs.{needs}
 use lib.ListN.{length}
-use Rattle.drr.specs.declared.State.{State}
 use Rattle.drr.specs.Facts.{SoundState}
 use Rattle.drr.specs.Answers.{Answer, Reply, verdictPaper}
 use Rattle.runfile.specs.File.{flowsReply}

@@ -1,4 +1,4 @@
-use mathlib.Core.Path.{_≡_, ap, _∙_}
+use mathlib.Core.Path.{ap, _∙_}
 use mathlib.Core.List.{List, [], _++_}
 use Prim.Native.Nat.{ℕ, _+_, _*_, _-_, _≤_, _<_}
 use native.Mathlib.Omega.{arith}
@@ -15,7 +15,7 @@ use Rattle.answers.proofs.put_flows.Tie as tie
 
 abbrev Inv-loop : tie.InvT-loop
 Inv-loop s sizes buf₀ n at₀ flow₀ buf at flow =
-    (flow ≤ n) × (at ≤ 441 * flow) × Left buf₀ 0 (flowLines (s .table) sizes 0 n) buf at (flowLines (s .table) sizes flow (n - flow))
+    (at ≤ 441 * flow) × Left buf₀ 0 (flowLines (s .table) sizes 0 n) buf at (flowLines (s .table) sizes flow (n - flow))
 
 abbrev μ-loop : tie.MeasureT-loop
 μ-loop s sizes buf₀ n at₀ flow₀ buf at flow = n - flow
@@ -34,7 +34,7 @@ module _ (z : tie.Start Inv-loop μ-loop) where
 loop-holds : tie.Need-loop-holds Inv-loop μ-loop
 loop-holds c =
     let z = c .before .before .before in
-    (omega arith, omega arith, flows-first (T z) (sizes z) (T z .n) (z .args .buf .now) (z .pre .1) (few-flows z) (z .pre .2))
+    (omega arith, flows-first (T z) (sizes z) (T z .n) (z .args .buf .now) (z .pre .1) (few-flows z) (z .pre .2))
 
 -- before a flow's line: the buffer, where the line is put, and that there is room
 module _ (c : tie.In-loop Inv-loop μ-loop) where
@@ -51,7 +51,7 @@ module _ (c : tie.In-loop Inv-loop μ-loop) where
   line = numbersText (flowFigures (T z) (sizes z) (c .before .loop .flow))
 
   fits : at + 441 ≤ length b
-  fits = omega (arith, c .before .loop .inv .1, c .before .loop .inv .2 .size, c .loop-test .taken, few-flows z, z .pre .2)
+  fits = omega (arith, c .before .loop .inv .0, c .before .loop .inv .1 .size, c .loop-test .taken, few-flows z, z .pre .2)
 
   short : length line ≤ 441
   short = row-most (T z) (sizes z) (z .pre .1) (c .before .loop .flow)
@@ -74,7 +74,7 @@ module _ (p : tie.After-put-flow Inv-loop μ-loop) where
   grown : (at i + p .put-flow .result ≤ 7056) × (i .before .loop .flow < 16)
   grown =
       let low = few-flows (z i) in
-      (omega (arith, i .before .loop .inv .1, i .loop-test .taken, short i, p .put-flow .ensures .0), omega (arith, i .loop-test .taken))
+      (omega (arith, i .before .loop .inv .0, i .loop-test .taken, short i, p .put-flow .ensures .0), omega (arith, i .loop-test .taken))
 
 loop-again : tie.Need-loop-again Inv-loop μ-loop
 loop-again c =
@@ -82,9 +82,8 @@ loop-again c =
     let k = i p in
     let l = c .before .before .before .before .before .loop in
     let q = put p in (
-      omega (arith, k .loop-test .taken),
-      omega (arith, l .inv .1, short k, p .put-flow .ensures .0),
-      left-next (l .inv .2) (line k) _ (flows-next (T (z k)) (sizes (z k)) (T (z k) .n) (l .flow) (k .loop-test .taken)) _ _ q
+      omega (arith, l .inv .0, short k, p .put-flow .ensures .0),
+      left-next (l .inv .1) (line k) _ (flows-next (T (z k)) (sizes (z k)) (T (z k) .n) (l .flow) (k .loop-test .taken)) _ _ q
           (ap length (q .0) ∙ length-sets (b k) (at k) (line k)),
     )
 
@@ -92,7 +91,7 @@ returns : tie.Need-returns Inv-loop μ-loop
 returns c =
     let z = c .before .before .before .before .before in
     let l = c .before .loop in
-    let left = l .inv .2 in
+    let left = l .inv .1 in
     let none = flows-last (T z) (sizes z) (T z .n) (l .flow) (c .loop-test .left) in
     let put = left-end left [] none _ _ (put-none _ _) in
     filled 0 0 (flowLines (T z) (sizes z) 0 (T z .n)) (z .args .buf .now) _ _ (omega arith) (omega (arith, left .fits)) put
@@ -112,5 +111,5 @@ put-flows-spec =
     (λ c. omega (arith, grown (c .before .before) .1))
     (λ c. let k = i (c .before .before) in omega (arith, k .loop-test .taken))
     loop-again
-    (λ c. c .before .loop .inv .2 .size)
+    (λ c. c .before .loop .inv .1 .size)
     returns)

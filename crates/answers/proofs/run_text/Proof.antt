@@ -1,11 +1,10 @@
-use mathlib.Core.Path.{_≡_, refl, sym, ap, _∙_}
+use mathlib.Core.Path.{refl, sym, ap, _∙_}
 use mathlib.Core.List.{List}
-use Prim.Native.Nat.{ℕ, _/_, _≤_}
+use Prim.Native.Nat.{ℕ, _≤_}
 use native.Mathlib.Omega.{arith}
 use borrow.Author.Needs.{needs}
 use lib.ListN.{length, length-replicate}
 use Rattle.drr.specs.Answers.{Answer, verdictPaper}
-use Rattle.runfile.specs.File.{runAnswer}
 use Rattle.text.specs.Text.{listingText}
 use Rattle.answers.proofs.Given.{given, run-short, run-fits, refusal-fits, listing-fits}
 use Rattle.answers.proofs.Shown.{run-refusal, run-listing}
