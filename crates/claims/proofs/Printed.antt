@@ -91,9 +91,9 @@ module _ (i : ℕ) (low : i < T .n) where
   abbrev byOwed : ℕ → ℕ
   byOwed S = (quantumOf T i * S - lag T i + (allQuanta T - 1)) / allQuanta T
 
-  row-is : flowFigures T workedSizes i
+  line-is : flowFigures T workedSizes i
       ≡ i ∷ quantumOf T i ∷ maximumOf T i ∷ lag T i ∷ byWait ∷ byOwed 10000 ∷ byOwed 100000 ∷ byOwed 1000000 ∷ []
-  row-is =
+  line-is =
       let w : wait T i ≡ byWait = waits ranged i low refl in
       let o : (S : ℕ) → owed T i S ≡ byOwed S = λ S. owes ranged i low S refl in
       λ j. i ∷ quantumOf T i ∷ maximumOf T i ∷ lag T i ∷ w j ∷ o 10000 j ∷ o 100000 j ∷ o 1000000 j ∷ []
@@ -101,4 +101,4 @@ module _ (i : ℕ) (low : i < T .n) where
 pub worked-figures : figuresText worked workedSizes ≡ workedFigures
 unfolding figuresText flowsReply headerAnswer setupAnswer setupTable decimal places
 worked-figures =
-    λ j. numbersText (row-is 0 (lit< tt) j) ++ (numbersText (row-is 1 (lit< tt) j) ++ (numbersText (row-is 2 (lit< tt) j) ++ []))
+    λ j. numbersText (line-is 0 (lit< tt) j) ++ (numbersText (line-is 1 (lit< tt) j) ++ (numbersText (line-is 2 (lit< tt) j) ++ []))
