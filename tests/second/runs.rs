@@ -1,6 +1,6 @@
 //! Calls the proved library's run on all generated files, and compares the refusal, its place and the
-//! whole lent list with the second program's: with a list for the longest run, and for a file that is
-//! not refused also with one just long enough and one a number short.
+//! whole lent list with the second program's: with a list for the longest run, with an empty one, and
+//! for a file that is not refused also with one just long enough and one a number short.
 
 mod drr;
 mod proved;
@@ -10,19 +10,21 @@ use proved::Fault;
 /// Room for 1,025 lines of six numbers.
 const LONGEST: usize = 6 * 1_025;
 
-/// What a lent list holds beforehand, and no line has.
-const LEFT: u64 = u64::MAX;
+/// What a lent list holds beforehand: at each place another number, and none that a line has.
+fn before(room: usize) -> Vec<u64> {
+    (0..room as u64).map(|place| u64::MAX - place).collect()
+}
 
 /// An answer, and the lent list after the run.
 type Ran = (Fault, Vec<u64>);
 
 fn by_proved(file: &[u8], room: usize) -> Ran {
-    let mut list = vec![LEFT; room];
+    let mut list = before(room);
     (proved::run(file, &mut list), list)
 }
 
 fn by_second(file: &[u8], room: usize) -> Ran {
-    let mut list = vec![LEFT; room];
+    let mut list = before(room);
     let (refusal, place) = match drr::run(file, room) {
         Ok(lines) => {
             let numbers = lines.concat();
@@ -38,7 +40,7 @@ fn main() {
     let (mut runs, mut differ) = (0, 0);
     let mut seen = [0; 15];
     for file in files::all() {
-        let mut rooms = vec![LONGEST];
+        let mut rooms = vec![LONGEST, 0];
         if let Ok(lines) = drr::run(&file.bytes, LONGEST) {
             rooms.extend([6 * lines.len(), 6 * lines.len() - 1]);
         }

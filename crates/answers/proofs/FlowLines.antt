@@ -7,6 +7,7 @@ use borrow.Author.Tests.{le-ltb, lt-leb}
 use lib.Dec.{eqb}
 use lib.ListN.{length, take, drop, length-append, length-drop, length-map}
 use lib.Seq.{sets-eq, take-append-seam, drop-drop, drop-length}
+use Rattle.drr.specs.Limits.{mostFlows}
 use Rattle.drr.specs.declared.State.{State}
 use Rattle.drr.specs.declared.Table.{Table}
 use Rattle.drr.specs.declared.Refusal.{Refusal}
@@ -22,7 +23,7 @@ use Rattle.figures.specs.Answers.{askedAnswer, figureIs, valueOf, allFigures, f
 use Rattle.text.specs.Text.{refusalText, numbersText, numbersWithin, Put}
 use Rattle.text.proofs.Texts.{Left, left-all, Filled}
 use Rattle.text.proofs.Lines.{to-end, numbers-most}
-use Rattle.answers.specs.Printed.{flowFigures, flowLines, figuresText}
+use Rattle.answers.specs.Printed.{flowFigures, flowLines, figuresText, figuresRoom, flowRoom, mostSizes}
 use Rattle.answers.proofs.Given.{refused-text, fine-text}
 
 figures-length : (T : Table) (sizes : List ℕ) (f : ℕ) → length (flowFigures T sizes f) ≡ 5 + length sizes
@@ -39,7 +40,7 @@ module _ (s : State) (ok : SoundState s) (f : ℕ) (below : f < s .table .n) whe
   each-fine [] = refl
   each-fine (S ∷ more) = λ i. asked-fine (owed (s .table) f S) i ∷ each-fine more i
 
-  module _ (sizes : List ℕ) (few : length sizes ≤ 16) where
+  module _ (sizes : List ℕ) (few : length sizes ≤ mostSizes) where
     line-is : figuresWithin s f sizes 21 ≡ flowFigures (s .table) sizes f
     unfolding figuresWithin
     line-is =
@@ -49,10 +50,10 @@ module _ (s : State) (ok : SoundState s) (f : ℕ) (below : f < s .table .n) whe
         wide ∙ (λ i. front (asked-fine (lag (s .table) f) i) (asked-fine (wait (s .table) f) i) (each-fine sizes i))
 
     -- its text, in a buffer with room for 21 numbers
-    pub row-text : (out list : List ℕ) (n room : ℕ) → Filled (figuresWithin s f sizes 21) out list n → 441 ≤ room →
+    pub flow-text : (out list : List ℕ) (n room : ℕ) → Filled (figuresWithin s f sizes 21) out list n → flowRoom ≤ room →
         numbersWithin (take n list) room ≡ numbersText (flowFigures (s .table) sizes f)
     unfolding numbersWithin
-    row-text out list n room p h =
+    flow-text out list n room p h =
         let w : List ℕ = figuresWithin s f sizes 21 in
         let taken : take n list ≡ flowFigures (s .table) sizes f =
         (λ i. take (p .0 i) (p .1 i)) ∙ take-append-seam w (drop (length w) out) ∙ line-is in
@@ -61,21 +62,21 @@ module _ (s : State) (ok : SoundState s) (f : ℕ) (below : f < s .table .n) whe
 
 -- ---- the lines: 441 bytes for each are enough
 module _ (T : Table) (sizes : List ℕ) where
-  pub row-most : length sizes ≤ 16 → (f : ℕ) → length (numbersText (flowFigures T sizes f)) ≤ 441
-  row-most few f = omega (arith, numbers-most (flowFigures T sizes f), figures-length T sizes f)
+  pub flow-most : length sizes ≤ mostSizes → (f : ℕ) → length (numbersText (flowFigures T sizes f)) ≤ flowRoom
+  flow-most few f = omega (arith, numbers-most (flowFigures T sizes f), figures-length T sizes f)
 
-  lines-most : length sizes ≤ 16 → (f k : ℕ) → length (flowLines T sizes f k) ≤ 441 * k
+  lines-most : length sizes ≤ mostSizes → (f k : ℕ) → length (flowLines T sizes f k) ≤ flowRoom * k
   lines-most few f zero = omega arith
   lines-most few f (suc k) =
       omega (
         arith,
         length-append (numbersText (flowFigures T sizes f)) (flowLines T sizes (f + 1) k),
-        row-most few f,
+        flow-most few f,
         lines-most few (f + 1) k,
       )
 
   -- what is left to print before the first of n flows, before another, and after the last
-  pub flows-first : (n : ℕ) (b : List ℕ) → length sizes ≤ 16 → n ≤ 16 → 7056 ≤ length b →
+  pub flows-first : (n : ℕ) (b : List ℕ) → length sizes ≤ mostSizes → n ≤ mostFlows → figuresRoom ≤ length b →
       Left b 0 (flowLines T sizes 0 n) b 0 (flowLines T sizes 0 (n - 0))
   flows-first n b few low room =
       let all : n ≡ n - 0 = omega arith in

@@ -10,7 +10,7 @@ use Rattle.drr.specs.Answers.{Answer, numberOf, refusedAt}
 use Rattle.drr.proofs.Papers.{number-some}
 use Rattle.text.specs.Text.{refusalText, refusalWithin, listingText, listingWithin, overlaid}
 use Rattle.text.proofs.Texts.{Filled, counted}
-use Rattle.answers.specs.Printed.{answerText, runText, runTextWithin, figuresText, figuresTextWithin}
+use Rattle.answers.specs.Printed.{answerText, runText, runTextWithin, figuresText, figuresTextWithin, figuresRoom, mostSizes, runRoom}
 
 -- the text W at the start of the buffer b gives b', and r is how many bytes it has
 abbrev pub Given : List ℕ → List ℕ → List ℕ → ℕ → Type 0
@@ -43,13 +43,13 @@ pub refusal-same : {n n' p p' : ℕ} → n ≡ n' → p ≡ p' → (room : ℕ) 
 refusal-same e g room b b' r = as-text _ _ b b' r (λ i. refusalWithin (e i) (g i) room)
 
 -- ---- a buffer too short for a run's text, and one that is not
-pub run-short : (b : List ℕ) (room : ℕ) → room < 110700 → [] ≡ runTextWithin b room
+pub run-short : (b : List ℕ) (room : ℕ) → room < runRoom → [] ≡ runTextWithin b room
 unfolding runTextWithin
-run-short b room h = rw (lt-ltb room 110700 h)
+run-short b room h = rw (lt-ltb room runRoom h)
 
-pub run-fits : (b : List ℕ) (room : ℕ) → 110700 ≤ room → runText b ≡ runTextWithin b room
+pub run-fits : (b : List ℕ) (room : ℕ) → runRoom ≤ room → runText b ≡ runTextWithin b room
 unfolding runTextWithin
-run-fits b room h = rw (le-ltb room 110700 h)
+run-fits b room h = rw (le-ltb room runRoom h)
 
 pub listing-fits : (list : List ℕ) (room : ℕ) → length list ≤ room / 18 → listingWithin list room ≡ listingText list
 unfolding listingWithin
@@ -57,14 +57,14 @@ listing-fits list room h = rw (le-ltb (room / 18) (length list) h)
 
 -- ---- .. for the figures' text
 module _ (b sizes : List ℕ) (room : ℕ) where
-  pub figures-short : room < 7056 → [] ≡ figuresTextWithin b sizes room
+  pub figures-short : room < figuresRoom → [] ≡ figuresTextWithin b sizes room
   unfolding figuresTextWithin
-  figures-short h = rw (lt-ltb room 7056 h)
+  figures-short h = rw (lt-ltb room figuresRoom h)
 
-  pub figures-many : 7056 ≤ room → 16 < length sizes → [] ≡ figuresTextWithin b sizes room
+  pub figures-many : figuresRoom ≤ room → mostSizes < length sizes → [] ≡ figuresTextWithin b sizes room
   unfolding figuresTextWithin
-  figures-many h m = rw (le-ltb room 7056 h, lt-ltb 16 (length sizes) m)
+  figures-many h m = rw (le-ltb room figuresRoom h, lt-ltb mostSizes (length sizes) m)
 
-  pub figures-fit : 7056 ≤ room → length sizes ≤ 16 → figuresText b sizes ≡ figuresTextWithin b sizes room
+  pub figures-fit : figuresRoom ≤ room → length sizes ≤ mostSizes → figuresText b sizes ≡ figuresTextWithin b sizes room
   unfolding figuresTextWithin
-  figures-fit h m = rw (le-ltb room 7056 h, le-ltb 16 (length sizes) m)
+  figures-fit h m = rw (le-ltb room figuresRoom h, le-ltb mostSizes (length sizes) m)

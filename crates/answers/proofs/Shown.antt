@@ -26,31 +26,31 @@ use Rattle.runfile.specs.Listing.{tally, startLine, lineFor, afterAct, listing,
 use Rattle.runfile.proofs.Files.{file-laid}
 use Rattle.runfile.proofs.Claims.{file-sound}
 use Rattle.text.specs.Text.{lineText, listingText, refusalText}
-use Rattle.answers.specs.Printed.{runText}
+use Rattle.answers.specs.Printed.{runText, listRoom}
 use Rattle.answers.proofs.Given.{refused-text, fine-text}
 
 -- ---- a call gives no line, or one that is not line 3
-data Row : List ℕ → Type 0 where
-  no-row : Row []
-  one-row : (k a b c d e : ℕ) → eqb k 3 ≡ false → Row (k ∷ a ∷ b ∷ c ∷ d ∷ e ∷ [])
+data Lines : List ℕ → Type 0 where
+  no-lines : Lines []
+  one-line : (k a b c d e : ℕ) → eqb k 3 ≡ false → Lines (k ∷ a ∷ b ∷ c ∷ d ∷ e ∷ [])
 
-drop-row : (tick flow len r : ℕ) (t : Bool) → Row (cond t [] (2 ∷ tick ∷ flow ∷ len ∷ r ∷ 0 ∷ []))
-drop-row tick flow len r true = no-row
-drop-row tick flow len r false = one-row 2 tick flow len r 0 refl
+refused-line : (tick flow len r : ℕ) (t : Bool) → Lines (cond t [] (2 ∷ tick ∷ flow ∷ len ∷ r ∷ 0 ∷ []))
+refused-line tick flow len r true = no-lines
+refused-line tick flow len r false = one-line 2 tick flow len r 0 refl
 
-start-row : (t : ℕ) (l : Line) (a : Answer) (l' : Line) → PickedAs l a l' → Row (startLine t a)
-start-row t l a l' (idled e x y) = rw e no-row
-start-row t l a l' (gave f len d v e less most) = rw e (one-row 1 t f len d v refl)
+sent-line : (t : ℕ) (l : Line) (a : Answer) (l' : Line) → PickedAs l a l' → Lines (startLine t a)
+sent-line t l a l' (idled e x y) = rw e no-lines
+sent-line t l a l' (gave f len d v e less most) = rw e (one-line 1 t f len d v refl)
 
-row-of : (T : Table) (l : Line) → Sound T l → (k : Act) → Row (lineFor k (outcomeOf T l k .answer))
-row-of T l ok (comes a f n) = drop-row a f n (arrivalOf T l f n .answer .refusal) (eqb (arrivalOf T l f n .answer .refusal) 0)
-row-of T l ok (asks t) = start-row t l (pickOf T l .answer) (pickOf T l .line) (pick-as T l ok)
+lines-of : (T : Table) (l : Line) → Sound T l → (k : Act) → Lines (lineFor k (outcomeOf T l k .answer))
+lines-of T l ok (comes a f n) = refused-line a f n (arrivalOf T l f n .answer .refusal) (eqb (arrivalOf T l f n .answer .refusal) 0)
+lines-of T l ok (asks t) = sent-line t l (pickOf T l .answer) (pickOf T l .line) (pick-as T l ok)
 
-row-first : (u X rest : List ℕ) → Row u → listingText (X ++ rest) ≡ listingText X →
+lines-first : (u X rest : List ℕ) → Lines u → listingText (X ++ rest) ≡ listingText X →
     listingText ((u ++ X) ++ rest) ≡ listingText (u ++ X)
 unfolding listingText
-row-first u X rest no-row h = h
-row-first u X rest (one-row k a b c d e more) h =
+lines-first u X rest no-lines h = h
+lines-first u X rest (one-line k a b c d e more) h =
     ap (λ (z : List ℕ). lineText k (a ∷ b ∷ c ∷ d ∷ e ∷ []) ++ cond (eqb k 3) [] z) h
 
 -- ---- so the text of a listing is that of the list that it stands in
@@ -59,8 +59,8 @@ pub shown : (T : Table) (ks : List Act) (l : Line) (y : Tally) (rest : List ℕ)
 unfolding listing listingText
 shown T [] l y rest ok = refl
 shown T (k ∷ ks) l y rest ok =
-    row-first (lineFor k (outcomeOf T l k .answer)) (listing T ks (outcomeOf T l k .line) (afterAct k (outcomeOf T l k .answer) y)) rest
-    (row-of T l ok k)
+    lines-first (lineFor k (outcomeOf T l k .answer)) (listing T ks (outcomeOf T l k .line) (afterAct k (outcomeOf T l k .answer) y)) rest
+    (lines-of T l ok k)
     (shown T ks (outcomeOf T l k .line) (afterAct k (outcomeOf T l k .answer) y) rest (calls-keep T l ok (callIn k ∷ [])))
 
 -- ---- a list of 6,150 numbers has room for any run, and the text is the file's
@@ -72,7 +72,7 @@ module _ (b : List ℕ) where
       let rest : List ℕ = drop (6 * (eventCount b + 1)) out in
       rw e (shown (tableIn b) (runCalls b) (freshLine (tableIn b .n)) (tally 0 0 0) rest (file-sound b ok []))
 
-  module _ (room : ℕ) (long : 6150 ≤ room) where
+  module _ (room : ℕ) (long : listRoom ≤ room) where
     judged : (t : Bool) → eqb (fileAnswer b .refusal) 0 ≡ t → runAnswer b room ≡ cond t fine (fileAnswer b)
     unfolding runAnswer
     judged true e =
@@ -96,7 +96,7 @@ module _ (b : List ℕ) where
         (λ t. ap (λ (a : Answer). a .refusal) (sym (judged false t)) ∙ e)
         (dec (eqb (fileAnswer b .refusal) 0))
 
-  pub run-listing : (out : List ℕ) → 6150 ≤ length out → runAnswer b (length out) .refusal ≡ 0 →
+  pub run-listing : (out : List ℕ) → listRoom ≤ length out → runAnswer b (length out) .refusal ≡ 0 →
       listingText (filled b out) ≡ runText b
   unfolding runText
   run-listing out long e =

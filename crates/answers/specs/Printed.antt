@@ -1,10 +1,11 @@
 -- What the two programs print, by the bytes of the file that they read.
-use Prim.Native.Nat.{ℕ, zero, suc, _+_}
+use Prim.Native.Nat.{ℕ, zero, suc, _+_, _*_}
 use mathlib.Core.Bool.{cond}
 use mathlib.Core.List.{List, [], _∷_, _++_, map}
 use lib.Dec.{ltb, eqb}
 use lib.ListN.{length, getD}
 use Rattle.drr.specs.declared.Table.{Table}
+use Rattle.drr.specs.Limits.{mostFlows, mostEvents}
 use Rattle.drr.specs.Answers.{Answer}
 use Rattle.drr.specs.State.{quantumOf, maximumOf}
 use Rattle.drr.specs.Figures.{lag, owed, wait}
@@ -36,10 +37,27 @@ figuresText b sizes =
     let T = flowsReply b .state .table in
     answerText (flowsReply b .answer) (flowLines T sizes 0 (T .n))
 
+-- a run's list: six numbers for each event and for line 3; and its text, 18 bytes for each number
+abbrev pub listRoom : ℕ
+listRoom = 6 * (mostEvents + 1)
+
+abbrev pub runRoom : ℕ
+runRoom = 18 * listRoom
+
+-- how many numbers of bytes may be asked; a flow's line, 21 bytes for each of its numbers; and the lines of sixteen flows
+abbrev pub mostSizes : ℕ
+mostSizes = 16
+
+abbrev pub flowRoom : ℕ
+flowRoom = 21 * (5 + mostSizes)
+
+abbrev pub figuresRoom : ℕ
+figuresRoom = mostFlows * flowRoom
+
 -- what is written into a buffer of this many bytes: nothing, where it has fewer than 110,700, which is room for any run's text
 unfoldable pub runTextWithin : List ℕ → ℕ → List ℕ
-runTextWithin b room = cond (ltb room 110700) [] (runText b)
+runTextWithin b room = cond (ltb room runRoom) [] (runText b)
 
--- .. nothing, where it has fewer than 7,056, which is room for sixteen lines of 21 numbers, or more than 16 numbers of bytes are asked
+-- .. nothing, where it has fewer than 7,056, or more than 16 numbers of bytes are asked
 unfoldable pub figuresTextWithin : List ℕ → List ℕ → ℕ → List ℕ
-figuresTextWithin b sizes room = cond (ltb room 7056) [] (cond (ltb 16 (length sizes)) [] (figuresText b sizes))
+figuresTextWithin b sizes room = cond (ltb room figuresRoom) [] (cond (ltb mostSizes (length sizes)) [] (figuresText b sizes))

@@ -10,7 +10,13 @@ ghost use Rattle.io.specs.Counts.{Counts};
 ghost use Rattle.drr.specs.Facts.{SoundState};
 ghost use Rattle.drr.specs.Answers.{numberOf};
 ghost use Rattle.text.specs.Text.{refusalWithin, numbersText, overlaid};
-ghost use Rattle.answers.specs.Printed.{flowFigures, flowLines, runTextWithin, figuresTextWithin};
+ghost use Rattle.answers.specs.Printed.{mostSizes, flowRoom, figuresRoom, flowFigures, flowLines, runTextWithin, figuresTextWithin};
+
+// Bytes that are room for any run's text, and for the figures of any table.
+pub const RUN_ROOM: usize = 110700;
+pub const FIGURES_ROOM: usize = 7056;
+// How many numbers of bytes may be asked.
+pub const MOST_SIZES: usize = 16;
 
 // The line of a refusal, which asks for 44 bytes.
 fn refusal_line(why: Refusal, place: usize, buf: &mut [u8]) -> usize
@@ -29,7 +35,7 @@ pub fn run_text(file: &[u8], buf: &mut [u8]) -> usize
         overlaid (runTextWithin (now (file .entry)) (length (now (buf .entry)))) (now (buf .entry)) ⌝ }
     ensures { λ r. ⌜ Counts r (now (buf .exit)) ⌝ }
 {
-    if buf.len() < 110700 {
+    if buf.len() < RUN_ROOM {
         return 0;
     }
     // room for the lines of 1,024 events and the last: no file is refused for want of room
@@ -43,7 +49,7 @@ pub fn run_text(file: &[u8], buf: &mut [u8]) -> usize
 
 // The line of a flow of a sound state.
 fn put_flow(s: State, flow: usize, sizes: &[u32], buf: &mut [u8]) -> usize
-    requires { ⌜ SoundState s × (flow < s .table .n) × (length (now sizes) ≤ 16) × (441 ≤ length (now buf)) ⌝ }
+    requires { ⌜ SoundState s × (flow < s .table .n) × (length (now sizes) ≤ mostSizes) × (flowRoom ≤ length (now buf)) ⌝ }
     ensures { λ r. ⌜ (let text = numbersText (flowFigures (s .table) (now (sizes .entry)) flow) in
         (r ≡ length text) × (now (buf .exit) ≡ overlaid text (now (buf .entry)))) ⌝ }
 {
@@ -54,7 +60,7 @@ fn put_flow(s: State, flow: usize, sizes: &[u32], buf: &mut [u8]) -> usize
 
 // A line for each flow of a sound state.
 fn put_flows(s: State, sizes: &[u32], buf: &mut [u8]) -> usize
-    requires { ⌜ SoundState s × (length (now sizes) ≤ 16) × (7056 ≤ length (now buf)) ⌝ }
+    requires { ⌜ SoundState s × (length (now sizes) ≤ mostSizes) × (figuresRoom ≤ length (now buf)) ⌝ }
     ensures { λ r. ⌜ (let text = flowLines (s .table) (now (sizes .entry)) 0 (s .table .n) in
         (r ≡ length text) × (now (buf .exit) ≡ overlaid text (now (buf .entry)))) ⌝ }
 {
@@ -80,10 +86,10 @@ pub fn figures_text(file: &[u8], sizes: &[u32], buf: &mut [u8]) -> usize
         (now (buf .entry)) ⌝ }
     ensures { λ r. ⌜ Counts r (now (buf .exit)) ⌝ }
 {
-    if buf.len() < 7056 {
+    if buf.len() < FIGURES_ROOM {
         return 0;
     }
-    if 16 < sizes.len() {
+    if MOST_SIZES < sizes.len() {
         return 0;
     }
     let made = runfile::reader::read_flows(file);

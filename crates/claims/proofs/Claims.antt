@@ -1,11 +1,11 @@
 -- What is proved, on one page: the three demands and the document's table, each claim as a statement with the name of its proof. The
--- definitions stand in crates/drr/specs and, for a run, crates/runfile/specs. Beside this page: Meets.antt (each function meets the
--- contract in its source, for any numbers and any state) and One.antt (no second answer meets it).
+-- definitions stand in the specs of drr, figures, runfile and text. Beside this page: Meets.antt (each function meets the contract in
+-- its source, for any numbers and any state), One.antt (no second answer meets it), Worked.antt and Printed.antt (computed instances).
 use mathlib.Core.Path.{_≡_}
 use mathlib.Core.Bool.{true}
 use mathlib.Core.List.{List, [], _∷_, _++_}
 use mathlib.Core.Logic.{_↔_, _≢_}
-use Prim.Native.Nat.{ℕ, _+_, _*_, _-_, _/_, _≤_, _<_}
+use Prim.Native.Nat.{ℕ, _+_, _*_, _-_, _/_, _^_, _≤_, _<_}
 use lib.ListN.{length}
 use mir.Val.{Val}
 use denote.Laws.{Is}
@@ -20,14 +20,16 @@ use Rattle.drr.specs.Arrival.{arrivalReply}
 use Rattle.drr.specs.Pick.{Picks}
 use Rattle.drr.specs.Computed.{pickOf, pickReply}
 use Rattle.drr.specs.Setup.{setupReply}
-use Rattle.drr.specs.Figures.{allQuanta, lag, owed, wait}
+use Rattle.drr.specs.Figures.{allQuanta, lag, Least, owed, wait}
 use Rattle.drr.specs.Floor.{Call, replyTo, afterCalls, lineAfter, bytesSent, flowSent, WaitsAtPicks, Floor}
 use Rattle.drr.specs.Paper.{Memory, Point, Reading, Serves, pointIn, memoryIn, startPoint, startMemory, answersTo}
 use Rattle.runfile.specs.declared.turns.Tally.{Tally}
 use Rattle.runfile.specs.File.{eventCount, eventsIn, fileAnswer, runAnswer}
 use Rattle.runfile.specs.Run.{Act, free, outcomeOf, Timed, bookedIn, callIn, callsIn, tableIn, runCalls}
 use Rattle.runfile.specs.Listing.{tally, tallyAfter, endLine, linesOf, ends, ticksOf, lastOf, acceptedTo, sentTo, runListing, filled}
-use Rattle.text.specs.Text.{listingText}
+use Rattle.figures.specs.Vectors.{Every, marked}
+use Rattle.io.specs.Digits.{Fewest}
+use Rattle.text.specs.Text.{listingText, places}
 use Rattle.drr.proofs.State as state
 use Rattle.drr.proofs.Facts.{sound-is, of-sound}
 use Rattle.drr.proofs.Shape.{shaped}
@@ -38,10 +40,11 @@ use Rattle.drr.proofs.Keeps.{arrival-keeps, arrival-refused, pick-keeps}
 use Rattle.drr.proofs.Calls.{fresh-state-sound, setup-keeps, setup-refused, call-sound, call-hands-back, pick-fine, idle-still}
 use Rattle.drr.proofs.Figures as figures
 use Rattle.drr.proofs.Demand3 as demand3
-use Rattle.drr.proofs.Paper.{listing-runs, listing-runs-only, listing-starts}
-use Rattle.figures.proofs.Vectors.{Every, marked, p1-to-p12}
+use Rattle.drr.proofs.Paper.{algorithm-runs, algorithm-runs-only, algorithm-starts}
+use Rattle.figures.proofs.Vectors.{p1-to-p12}
 use Rattle.runfile.proofs.Claims as run-claims
 use Rattle.runfile.proofs.Counts.{act-is-call}
+use Rattle.text.proofs.Texts.{places-fewest}
 use Rattle.answers.proofs.Shown as printed
 
 -- ==== DEMAND 1: any numbers, any state; a refusal hands back what it was given
@@ -85,27 +88,27 @@ pub idle-twice : (s : State) → ShapedState s → pickReply s .answer ≡ idle 
     pickReply (pickReply s .state) ≡ reply idle (pickReply s .state)
 idle-twice = idle-still
 
--- 000's own listing, as printed (specs/Paper.antt, where lines 18 to 20 can be read two ways): from any sound state, over any calls, it
+-- Algorithm 1 of 000 as printed (specs/Paper.antt, where lines 18 to 20 can be read two ways): from any sound state, over any calls, it
 -- sends and answers what the public calls do, and nothing else; and it starts where a fresh state does
-pub listing-is-calls : (s : State) → SoundState s → (r : Reading) (cs : List Call) →
+pub algorithm-calls : (s : State) → SoundState s → (r : Reading) (cs : List Call) →
     Serves (s .table) r (pointIn s) (memoryIn s) cs (answersTo s cs) (pointIn (afterCalls s cs)) (memoryIn (afterCalls s cs))
-listing-is-calls = listing-runs
+algorithm-calls = algorithm-runs
 
-pub listing-is-only : (s : State) → SoundState s → (r : Reading) (cs : List Call) (xs : List Answer) (q : Point) (t : Memory) →
+pub algorithm-only : (s : State) → SoundState s → (r : Reading) (cs : List Call) (xs : List Answer) (q : Point) (t : Memory) →
     Serves (s .table) r (pointIn s) (memoryIn s) cs xs q t →
     (xs ≡ answersTo s cs) × (q ≡ pointIn (afterCalls s cs)) × (t ≡ memoryIn (afterCalls s cs))
-listing-is-only = listing-runs-only
+algorithm-only = algorithm-runs-only
 
-pub listing-is-fresh : (T : Table) → (pointIn (freshState T) ≡ startPoint) × (memoryIn (freshState T) ≡ startMemory)
-listing-is-fresh = listing-starts
+pub algorithm-fresh : (T : Table) → (pointIn (freshState T) ≡ startPoint) × (memoryIn (freshState T) ≡ startMemory)
+algorithm-fresh = algorithm-starts
 
 -- ==== DEMAND 3: the floor, `Floor` in crates/drr/specs/Floor.antt. Its picks are `pickReply`'s, and by `pick-meets` (Meets.antt) so
 -- are the code's: what holds of the one holds of the other.
 pub the-floor : Floor
 the-floor = demand3.demand-3
 
--- what it rests on, between the waiting flow i and any other flow j: document 004's equation 19 without its fractions, with one byte
--- off each maximum
+-- beside it, by the same laws of a stretch, between the waiting flow i and any other flow j: document 004's equation 19 without its
+-- fractions, with one byte off each maximum
 pub between-flows : (s : State) → SoundState s → (before stretch : List Call) (i j : ℕ) → i < s .table .n → j < s .table .n → j ≢ i →
     WaitsAtPicks (afterCalls s before) stretch i →
     quantumOf (s .table) i * flowSent (afterCalls s before) stretch j
@@ -128,13 +131,13 @@ pick-sound s ok = call-sound s _ _ ok (pick-keeps (s .table) (lineIn (s .line)) 
 
 -- ==== the figures: owed is the least that reaches, wait the least S at which something is owed
 pub owed-is-least : (T : Table) (i S : ℕ) → 0 < allQuanta T →
-    figures.Least (λ x. quantumOf T i * S - lag T i ≤ allQuanta T * x) (owed T i S)
+    Least (λ x. quantumOf T i * S - lag T i ≤ allQuanta T * x) (owed T i S)
 owed-is-least T i S some = figures.owed-least T i some S
 
 pub owed-never-falls : (T : Table) (i S S' : ℕ) → 0 < allQuanta T → S ≤ S' → owed T i S ≤ owed T i S'
 owed-never-falls T i S S' some = figures.owed-grows T i some S S'
 
-pub wait-is-least : (T : Table) (i : ℕ) → 0 < allQuanta T → 0 < quantumOf T i → figures.Least (λ S. 1 ≤ owed T i S) (wait T i)
+pub wait-is-least : (T : Table) (i : ℕ) → 0 < allQuanta T → 0 < quantumOf T i → Least (λ S. 1 ≤ owed T i S) (wait T i)
 wait-is-least = figures.wait-least
 
 -- "It is C / Q rounded down, plus 1"
@@ -145,7 +148,7 @@ wait-is = figures.wait-formula
 pub one-flow : (T : Table) → T .n ≡ 1 → 0 < quantumOf T 0 → (lag T 0 ≡ 0) × ((S : ℕ) → owed T 0 S ≡ S)
 one-flow T one some = (figures.one-flow-lag T one some, figures.one-flow-owed T one some)
 
--- P1 to P12: the table `marked`, in crates/figures/proofs/Vectors.antt, and that every entry of it holds
+-- P1 to P12: the table `marked`, in crates/figures/specs/Vectors.antt, and that every entry of it holds
 pub document-table : Every marked
 document-table = p1-to-p12
 
@@ -212,3 +215,7 @@ module _ (b : List ℕ) (ok : fileAnswer b .refusal ≡ 0) where
   -- what is printed of the list after the run: the listing's text, whatever stands behind it
   pub run-printed : (out : List ℕ) → runAnswer b (length out) .refusal ≡ 0 → listingText (filled b out) ≡ listingText (runListing b)
   run-printed out = printed.run-printed b out ok
+
+-- and a number is printed in the fewest digits that hold it
+pub fewest-digits : (n : ℕ) → n < 10 ^ 20 → Fewest 10 1 n (places n)
+fewest-digits = places-fewest

@@ -28,7 +28,7 @@ flows =
 abbrev before : List Call
 before = arrives 0 200 ∷ arrives 0 750 ∷ arrives 1 500 ∷ arrives 2 400 ∷ []
 
--- .. and the rest of the run, with the arrival that is refused: flow 1 waits at each of the five picks
+-- .. and the rest of the run up to its last packet, with the arrival that is refused: flow 1 waits at each of the five picks
 abbrev stretch : List Call
 stretch = picks ∷ arrives 2 700 ∷ picks ∷ picks ∷ arrives 1 250 ∷ picks ∷ picks ∷ []
 
@@ -53,7 +53,7 @@ pub floor-here : owed (setupReply flows .state .table) 1 (bytesSent then stretch
 unfolding setupAnswer setupTable
 floor-here = the-floor (setupReply flows .state) (setup-sound flows) before stretch 1 (lit< tt) (run .waits)
 
--- ---- two flows of quantum 1 and maximum 1, three packets each, four picks: of the 4 bytes each flow is owed 1, and receives 2
+-- ---- two flows of quantum 1 and maximum 1, three packets each, four picks: of the 4 bytes flow 1 is owed 1, and receives 2
 abbrev pair : List FlowRecord
 pair = record { quantum = 1; maximum = 1 } ∷ record { quantum = 1; maximum = 1 } ∷ []
 

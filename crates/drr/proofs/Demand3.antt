@@ -7,6 +7,7 @@ use Prim.Native.Nat.{ℕ, _+_, _*_, _-_, _≤_, _<_}
 use native.Mathlib.Omega.{arith}
 use borrow.Author.Tests.{leb-false}
 use lib.Dec.{leb, ltb, eqb}
+use Rattle.drr.specs.Limits.{mostWaiting}
 use Rattle.drr.specs.declared.Table.{Table}
 use Rattle.drr.specs.declared.State.{State}
 use Rattle.drr.specs.State.{Line, quantumOf, maximumOf, waitingOf, lineIn, stateFrom}
@@ -68,7 +69,7 @@ module _ (T : Table) {Fit : Line → Type 0} {rank : Line → ℕ → ℕ} (O : 
   unfolding arrivalOf
   arrival-steps l fit f len =
       by-test (Step l) (leb (T .n) f) (λ _. still) (λ a. by-test (Step l) (eqb len 0) (λ _. still) (λ b.
-      by-test (Step l) (ltb (maximumOf T f) len) (λ _. still) (λ c. by-test (Step l) (leb 32 (waitingOf l f)) (λ _. still) (λ d.
+      by-test (Step l) (ltb (maximumOf T f) len) (λ _. still) (λ c. by-test (Step l) (leb mostWaiting (waitingOf l f)) (λ _. still) (λ d.
       record {
         run = booking T O i i<n l fit f len (leb-false (T .n) f a);
         whole = total-none (T .n);
@@ -199,7 +200,7 @@ floor-at T l ok before stretch i i<n w =
 pub demand-3 : Floor
 demand-3 s ok = subst FloorAt (state-back (s .table) (s .line)) (floor-at (s .table) (lineIn (s .line)) ok)
 
--- the inequality that it rests on, between the waiting flow i and any other
+-- beside it, by the same laws of a stretch: between the waiting flow i and any other
 abbrev PairAt : State → Type 0
 PairAt s =
     (before stretch : List Call) (i j : ℕ) → i < s .table .n → j < s .table .n → j ≢ i → WaitsAtPicks (afterCalls s before) stretch i →

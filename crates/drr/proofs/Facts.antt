@@ -9,7 +9,7 @@ use lib.Dec.{ltb, leb, eqb}
 use lib.ListN.{getD}
 use Rattle.drr.specs.declared.Table.{Table}
 use Rattle.drr.specs.State.{Line, quantumOf, maximumOf, deficitOf, waitingOf, rowOf, oldest, charge}
-use Rattle.drr.specs.Limits.{leastQuantum, mostQuantum, leastMaximum, mostMaximum, mostWaiting}
+use Rattle.drr.specs.Limits.{leastQuantum, mostQuantum, leastMaximum, mostMaximum, mostWaiting, mostFlows}
 use Rattle.drr.specs.Sound.{all, quantumb, maximumb, headb, rangeb, withinb, creditb, unusedb, numbersb}
 use Rattle.drr.specs.Sound.{visited, cellsb, flowb, soundb}
 use Rattle.drr.specs.Facts.{Credit, InUse, Unused, Flow, Shaped, Sound}
@@ -103,9 +103,9 @@ module _ (T : Table) (l : Line) (f : ℕ) where
   unfolding flowb cellsb
   flow-is e =
       let a = numbersb (ltb f (T .n)) (visited l f) q m d c (oldest l f) in
-      let b = all 32 (cellsb T l f) in
+      let b = all mostWaiting (cellsb T l f) in
       let h = chosen (ltb f (T .n)) (rangeOf && creditOf) (unusedb q m d c) (and-left a b e) in
-      let g : ((k : ℕ) → k < 32 → cellsb T l f k ≡ true) = all-at 32 (cellsb T l f) (and-right a b e) in
+      let g : ((k : ℕ) → k < mostWaiting → cellsb T l f k ≡ true) = all-at mostWaiting (cellsb T l f) (and-right a b e) in
       record {
         used = λ x. in-use q m c (and-left rangeOf creditOf (h .0 (lt-ltb f (T .n) x)));
         credit = λ x. credit-is (visited l f) d q c (oldest l f) (and-right rangeOf creditOf (h .0 (lt-ltb f (T .n) x)));
@@ -122,7 +122,7 @@ module _ (T : Table) (l : Line) (f : ℕ) where
       (λ p. and-both (of-in-use q m c (u .used (ltb-true f (T .n) p)))
       (of-credit (visited l f) d q c (oldest l f) (u .credit (ltb-true f (T .n) p))))
       (λ p. of-unused q m d c (u .unused (ltb-false f (T .n) p))))
-      (all-of 32 (cellsb T l f)
+      (all-of mostWaiting (cellsb T l f)
       (λ k x. choose (ltb k c) (withinb 1 m (cell k)) (eqb (cell k) 0)
       (λ p. let w = u .waiting k x (ltb-true k c p) in within-of 1 m (cell k) (w .0) (w .1))
       (λ p. eq-eqb (cell k) 0 (u .rest k x (ltb-false k c p)))))
@@ -138,11 +138,11 @@ module _ (T : Table) (l : Line) where
   unfolding soundb
   sound-is shape e =
       let a = headb (T .n) (l .place) (l .opened) in
-      let b = all 16 (flowb T l) in
+      let b = all mostFlows (flowb T l) in
       let h = and-left a b e in
       record {
         shape = shape;
-        flows-few = leb-true (T .n) 16 (and-left (leb (T .n) 16) placeb h);
+        flows-few = leb-true (T .n) mostFlows (and-left (leb (T .n) mostFlows) placeb h);
         placed =
             ⊎-elim
             (λ p. inl (ltb-true (l .place) (T .n) p))
@@ -152,8 +152,8 @@ module _ (T : Table) (l : Line) where
               eqb-true (l .place) 0 (and-right (eqb (T .n) 0) (eqb (l .place) 0) y),
               not-true (l .opened) (and-right zerob (not (l .opened)) p),
             ))
-            (or-cases (ltb (l .place) (T .n)) (zerob && not (l .opened)) (and-right (leb (T .n) 16) placeb h));
-        flows = λ f x. flow-is T l f (all-at 16 (flowb T l) (and-right a b e) f x);
+            (or-cases (ltb (l .place) (T .n)) (zerob && not (l .opened)) (and-right (leb (T .n) mostFlows) placeb h));
+        flows = λ f x. flow-is T l f (all-at mostFlows (flowb T l) (and-right a b e) f x);
       }
 
   pub of-sound : Sound T l → soundb T l ≡ true
@@ -161,10 +161,10 @@ module _ (T : Table) (l : Line) where
   of-sound u =
       and-both
       (and-both
-      (le-leb (T .n) 16 (u .flows-few))
+      (le-leb (T .n) mostFlows (u .flows-few))
       (⊎-elim
       (λ p. or-inl (ltb (l .place) (T .n)) (zerob && not (l .opened)) (lt-ltb (l .place) (T .n) p))
       (λ p. or-inr (ltb (l .place) (T .n)) (zerob && not (l .opened))
       (and-both (and-both (eq-eqb (T .n) 0 (p .0)) (eq-eqb (l .place) 0 (p .1))) (not-of (p .2))))
       (u .placed)))
-      (all-of 16 (flowb T l) (λ f x. of-flow T l f (u .flows f x)))
+      (all-of mostFlows (flowb T l) (λ f x. of-flow T l f (u .flows f x)))

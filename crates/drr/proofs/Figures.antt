@@ -10,15 +10,11 @@ use borrow.Author.Tests.{leb-true, le-leb}
 use lib.Dec.{leb}
 use Rattle.drr.specs.declared.Table.{Table}
 use Rattle.drr.specs.State.{quantumOf, maximumOf}
-use Rattle.drr.specs.Figures.{total, allQuanta, allMaxima, lag, leastFrom, reachesb, owed, wait}
+use Rattle.drr.specs.Figures.{total, allQuanta, allMaxima, lag, Least, leastFrom, reachesb, owed, wait}
 use Rattle.drr.proofs.Bools.{apart, below?, by-test}
 use Rattle.drr.proofs.Sums.{total-at}
 
 -- ---- the least number of a kind
-pub record Least (P : ℕ → Type 0) (x : ℕ) : Type 0 where
-  pub holds : P x
-  pub least : (y : ℕ) → P y → x ≤ y
-
 pub least-one : {P : ℕ → Type 0} {x y : ℕ} → Least P x → Least P y → x ≡ y
 least-one {P} {x} {y} a b = omega (arith, a .least y (b .holds), b .least x (a .holds))
 
@@ -122,7 +118,3 @@ module _ (T : Table) (one : T .n ≡ 1) (quantum : 0 < quantumOf T 0) where
   pub one-flow-owed : (S : ℕ) → owed T 0 S ≡ S
   one-flow-owed S =
       least-one (owed-least T 0 some S) (least-all (quantumOf T 0) (allQuanta T) (lag T 0) S quantum (all-is (quantumOf T)) one-flow-lag)
-
-  pub one-flow-wait : wait T 0 ≡ 1
-  one-flow-wait = least-one (wait-least T 0 some quantum)
-      (record { holds = omega (arith, one-flow-owed 1); least = λ S h. omega (arith, one-flow-owed S) })

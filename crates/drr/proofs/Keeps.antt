@@ -5,6 +5,7 @@ use Prim.Native.Nat.{ℕ, _+_}
 use native.Mathlib.Omega.{arith}
 use borrow.Author.Tests.{leb-false, ltb-false, eqb-false}
 use lib.Dec.{ltb, leb, eqb}
+use Rattle.drr.specs.Limits.{mostWaiting}
 use Rattle.drr.specs.declared.Table.{Table}
 use Rattle.drr.specs.declared.Found.the-variants.{Nothing}
 use Rattle.drr.specs.State.{Line, maximumOf, waitingOf}
@@ -28,16 +29,16 @@ module _ (T : Table) (l : Line) (ok : Sound T l) (f len : ℕ) where
       by-test (λ (o : Outcome). Sound T (o .line)) (leb (T .n) f) (λ _. ok) (λ a.
       by-test (λ (o : Outcome). Sound T (o .line)) (eqb len 0) (λ _. ok) (λ b.
       by-test (λ (o : Outcome). Sound T (o .line)) (ltb (maximumOf T f) len) (λ _. ok) (λ c.
-      by-test (λ (o : Outcome). Sound T (o .line)) (leb 32 (waitingOf l f)) (λ _. ok) (λ d.
+      by-test (λ (o : Outcome). Sound T (o .line)) (leb mostWaiting (waitingOf l f)) (λ _. ok) (λ d.
       puts T l ok f (leb-false (T .n) f a) len (omega (arith, eqb-false len 0 b)) (ltb-false (maximumOf T f) len c)
-      (leb-false 32 (waitingOf l f) d)))))
+      (leb-false mostWaiting (waitingOf l f) d)))))
 
 -- refused, it leaves the line as it came
 pub arrival-refused : (T : Table) (l : Line) (f len : ℕ) → (arrivalOf T l f len .answer .refusal ≡ 0 → ⊥) → arrivalOf T l f len .line ≡ l
 unfolding arrivalOf
 arrival-refused T l f len =
     by-test P (leb (T .n) f) (λ _ _. refl) (λ _. by-test P (eqb len 0) (λ _ _. refl) (λ _.
-    by-test P (ltb (maximumOf T f) len) (λ _ _. refl) (λ _. by-test P (leb 32 (waitingOf l f)) (λ _ _. refl) (λ _ no. absurd (no refl)))))
+    by-test P (ltb (maximumOf T f) len) (λ _ _. refl) (λ _. by-test P (leb mostWaiting (waitingOf l f)) (λ _ _. refl) (λ _ no. absurd (no refl)))))
   where
     P : Outcome → Type 0
     P o = (o .answer .refusal ≡ 0 → ⊥) → o .line ≡ l

@@ -1,4 +1,4 @@
--- Document 000's listing sends what document 01's picks send, and stands where they stand.
+-- Document 000's algorithm, as it is listed there, sends what document 01's picks send, and stands where they stand.
 use mathlib.Core.Path.{_≡_, refl, sym, ap, subst, subst⁻¹, _∙_}
 use mathlib.Core.Bool.{Bool, true, false, cond, _&&_}
 use mathlib.Core.List.{List, [], _∷_}
@@ -9,6 +9,7 @@ use borrow.Author.Tests.{ltb-true, ltb-false, le-ltb}
 use lib.Dec.{ltb, leb, eqb}
 use lib.ListN.{set}
 use lib.Seq.{set-getD}
+use Rattle.drr.specs.Limits.{mostWaiting}
 use Rattle.drr.specs.declared.Table.{Table}
 use Rattle.drr.specs.declared.State.{State}
 use Rattle.drr.specs.declared.Found.the-variants.{At, Nothing}
@@ -172,15 +173,15 @@ picks-run {T} r (closes {l = l} on stuck j) ok = rw on (leaves stuck (closing r 
 picks-run r (starts off j) ok = rw off (looks-run r j ok off)
 
 -- from where a sound line stands the listing runs to the pick's answer, and stands where the pick's line does ..
-pub listing-picks : (T : Table) (l : Line) → Sound T l → (r : Reading) →
+pub algorithm-picks : (T : Table) (l : Line) → Sound T l → (r : Reading) →
     Runs T r 0 (T .n) (pointOf T l) (memoryOf l) (pickOf T l .answer) (pointOf T (pickOf T l .line)) (memoryOf (pickOf T l .line))
-listing-picks T l ok r = picks-run r (pick-is T l ok) ok
+algorithm-picks T l ok r = picks-run r (pick-is T l ok) ok
 
 -- .. and to no other
-pub listing-only : (T : Table) (l : Line) → Sound T l → (r : Reading) (a : Answer) (q : Point) (t : Memory) →
+pub algorithm-no-other : (T : Table) (l : Line) → Sound T l → (r : Reading) (a : Answer) (q : Point) (t : Memory) →
     Runs T r 0 (T .n) (pointOf T l) (memoryOf l) a q t →
     (a ≡ pickOf T l .answer) × (q ≡ pointOf T (pickOf T l .line)) × (t ≡ memoryOf (pickOf T l .line))
-listing-only T l ok r a q t j = runs-one j (listing-picks T l ok r)
+algorithm-no-other T l ok r a q t j = runs-one j (algorithm-picks T l ok r)
 
 -- ---- any calls
 serves-one : {T : Table} {r : Reading} {p q o : Point} {m t u : Memory} {cs : List Call} {xs ys : List Answer} →
@@ -202,7 +203,7 @@ elsewhere p o z = outcome (z .answer) (withVisit (z .line) p o)
 
 arrives-anywhere : (T : Table) (l : Line) (f x p : ℕ) (o : Bool) → arrivalOf T (withVisit l p o) f x ≡ elsewhere p o (arrivalOf T l f x)
 unfolding arrivalOf
-arrives-anywhere T l f x p o = go (leb (T .n) f) (eqb x 0) (ltb (maximumOf T f) x) (leb 32 (waitingOf l f))
+arrives-anywhere T l f x p o = go (leb (T .n) f) (eqb x 0) (ltb (maximumOf T f) x) (leb mostWaiting (waitingOf l f))
   where
     by : Bool → Bool → Bool → Bool → Line → Outcome
     by a b c d l =
@@ -224,7 +225,7 @@ answersOf T l (c ∷ cs) = callOf T l c .answer ∷ answersOf T (callOf T l c .l
 calls-run : (T : Table) (r : Reading) (l : Line) → Sound T l → (cs : List Call) →
     Serves T r (pointOf T l) (memoryOf l) cs (answersOf T l cs) (pointOf T (lineAfter T l cs)) (memoryOf (lineAfter T l cs))
 calls-run T r l ok [] = ends
-calls-run T r l ok (picks ∷ cs) = runs (listing-picks T l ok r) (calls-run T r (pickOf T l .line) (pick-keeps T l ok) cs)
+calls-run T r l ok (picks ∷ cs) = runs (algorithm-picks T l ok r) (calls-run T r (pickOf T l .line) (pick-keeps T l ok) cs)
 calls-run T r l ok (arrives f x ∷ cs) = go (calls-run T r (arrivalOf T l f x .line) (arrival-keeps T l ok f x) cs)
   where
     z : Outcome
@@ -265,20 +266,20 @@ serves-as T l ok r cs =
     (answers-same T l ok cs) ends)
 
 -- from any sound state, over any calls of arrival and pick, the listing gives the answers of the calls and stands where the state does ..
-pub listing-runs : (s : State) → SoundState s → (r : Reading) (cs : List Call) →
+pub algorithm-runs : (s : State) → SoundState s → (r : Reading) (cs : List Call) →
     Serves (s .table) r (pointIn s) (memoryIn s) cs (answersTo s cs) (pointIn (afterCalls s cs)) (memoryIn (afterCalls s cs))
-listing-runs s ok r cs = subst (ServesAs r cs) (state-back (s .table) (s .line)) (serves-as (s .table) (lineIn (s .line)) ok r cs)
+algorithm-runs s ok r cs = subst (ServesAs r cs) (state-back (s .table) (s .line)) (serves-as (s .table) (lineIn (s .line)) ok r cs)
 
 -- .. and gives no other
-pub listing-runs-only : (s : State) → SoundState s → (r : Reading) (cs : List Call) (xs : List Answer) (q : Point) (t : Memory) →
+pub algorithm-runs-only : (s : State) → SoundState s → (r : Reading) (cs : List Call) (xs : List Answer) (q : Point) (t : Memory) →
     Serves (s .table) r (pointIn s) (memoryIn s) cs xs q t →
     (xs ≡ answersTo s cs) × (q ≡ pointIn (afterCalls s cs)) × (t ≡ memoryIn (afterCalls s cs))
-listing-runs-only s ok r cs xs q t j = serves-one j (listing-runs s ok r cs)
+algorithm-runs-only s ok r cs xs q t j = serves-one j (algorithm-runs s ok r cs)
 
 -- ---- where it stands
 -- lines 1 to 5 are 01's fresh state
-pub listing-starts : (T : Table) → (pointIn (freshState T) ≡ startPoint) × (memoryIn (freshState T) ≡ startMemory)
-listing-starts T = (ap line6 (first (T .n)), ap memoryOf (line-back T (freshLine (T .n))))
+pub algorithm-starts : (T : Table) → (pointIn (freshState T) ≡ startPoint) × (memoryIn (freshState T) ≡ startMemory)
+algorithm-starts T = (ap line6 (first (T .n)), ap memoryOf (line-back T (freshLine (T .n))))
   where
     first : (n : ℕ) → after n (n - 1) ≡ 0
     first zero = refl

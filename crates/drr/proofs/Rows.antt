@@ -8,6 +8,7 @@ use borrow.Author.Tests.{eq-eqb, ne-eqb, leb-false}
 use lib.Dec.{ltb, leb, eqb}
 use lib.ListN.{length, set, take}
 use lib.Seq.{getD-set-same, getD-set-other}
+use Rattle.drr.specs.Limits.{mostWaiting}
 use Rattle.drr.specs.declared.Table.{Table}
 use Rattle.drr.specs.State.{Line, maximumOf, waitingOf, rowOf, lengthsIn}
 use Rattle.drr.specs.Facts.{Sound}
@@ -35,7 +36,7 @@ module _ (T : Table) (i : ℕ) (i<n : i < T .n) where
     abbrev P : Outcome → Type 0
     P o = lengthsIn (o .line) i ≡ lengthsIn l i ++ addedTo (o .answer .refusal) f len i
 
-    put-adds : f < T .n → waitingOf l f < 32 → lengthsIn (put l f len) i ≡ lengthsIn l i ++ addedTo 0 f len i
+    put-adds : f < T .n → waitingOf l f < mostWaiting → lengthsIn (put l f len) i ≡ lengthsIn l i ++ addedTo 0 f len i
     put-adds in-table room = ⊎-elim
         (λ e. rw e (rw (
           eq-eqb f f refl,
@@ -62,7 +63,7 @@ module _ (T : Table) (i : ℕ) (i<n : i < T .n) where
     arrival-adds =
         by-test P (leb (T .n) f) (λ _. none) (λ a. by-test P (eqb len 0) (λ _. none) (λ _.
         by-test P (ltb (maximumOf T f) len) (λ _. none)
-        (λ _. by-test P (leb 32 (waitingOf l f)) (λ _. none) (λ d. put-adds (leb-false (T .n) f a) (leb-false 32 (waitingOf l f) d)))))
+        (λ _. by-test P (leb mostWaiting (waitingOf l f)) (λ _. none) (λ d. put-adds (leb-false (T .n) f a) (leb-false mostWaiting (waitingOf l f) d)))))
       where
         none : lengthsIn l i ≡ lengthsIn l i ++ []
         none = sym (append-nil (lengthsIn l i))

@@ -8,6 +8,7 @@ use native.Mathlib.Numerals.{sub-one}
 use borrow.Author.Tests.{lt-ltb, le-ltb, ltb-true}
 use lib.Dec.{ltb}
 use lib.ListN.{getD}
+use Rattle.drr.specs.Limits.{mostFlows}
 use Rattle.drr.specs.Pick.{after, firstOf}
 use Rattle.drr.specs.declared.Found.the-variants.{At, Nothing}
 use Rattle.drr.proofs.Bools.{by-test}
@@ -36,7 +37,7 @@ first-empty n w (suc k) f h = rw (h (after n f)) (first-empty n w k (after n f) 
 pub after-in : (n f : ℕ) → 0 < n → after n f < n
 after-in n f h = by-test (λ (g : ℕ). g < n) (ltb (f + 1) n) (λ e. ltb-true (f + 1) n e) (λ _. h)
 
-pub after-low : (n f : ℕ) → n ≤ 16 → after n f < 16
+pub after-low : (n f : ℕ) → n ≤ mostFlows → after n f < 16
 after-low n f h = by-test (λ (g : ℕ). g < 16) (ltb (f + 1) n) (λ e. omega (arith, ltb-true (f + 1) n e)) (λ _. omega arith)
 
 -- the flow that is found is in the table, and a packet waits there

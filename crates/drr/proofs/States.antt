@@ -43,19 +43,6 @@ state-back T l = rw (rows-back (l .rows))
 pub line-back : (T : Table) (l : Line) → lineIn (stateFrom T l .line) ≡ l
 line-back T l = rw (cells-back (l .rows))
 
--- two stored lines with one line in them are one
-pub line-one : (l m : StoredLine) → lineIn l ≡ lineIn m → l ≡ m
-line-one l m e =
-    let p = rows-back (l .rows) in
-    let q = rows-back (m .rows) in
-    λ i. record {
-      deficits = e i .deficits;
-      counts = e i .counts;
-      place = e i .place;
-      opened = e i .opened;
-      rows = (sym p ∙ ap (λ (k : Line). rowsFrom (k .rows)) e ∙ q) i;
-    }
-
 -- r is the test's answer
 module _ (s : State) (unsound : Answer) (o : Outcome) (r : Bool) (told : r ≡ soundState s) where
   pub refuses : not r ≡ true → reply unsound s ≡ guarded s unsound o

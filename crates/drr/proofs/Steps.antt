@@ -10,6 +10,7 @@ use borrow.Author.Tests.{ne-eqb, eq-eqb, lt-ltb, le-ltb}
 use lib.Dec.{eqb}
 use lib.ListN.{length, getD, set, drop, length-set, length-append, length-drop, List·getD-eq-default}
 use lib.Seq.{getD-set-same, getD-set-other, set-set}
+use Rattle.drr.specs.Limits.{mostWaiting}
 use Rattle.drr.specs.declared.Table.{Table}
 use Rattle.drr.specs.declared.Found.the-variants.{At}
 use Rattle.drr.specs.State.{Line, quantumOf, maximumOf, deficitOf, waitingOf, rowOf, charge, oldestCharge, withDeficit, withRow}
@@ -141,7 +142,7 @@ module _ (T : Table) (l : Line) (ok : Sound T l) (p : ℕ) (in-table : p < T .n)
       }
 
   -- "An accepted arrival puts the length at the end of its flow's row and changes nothing else."
-  pub puts : (len : ℕ) → 1 ≤ len → len ≤ maximumOf T p → waitingOf l p < 32 → Sound T (put l p len)
+  pub puts : (len : ℕ) → 1 ≤ len → len ≤ maximumOf T p → waitingOf l p < mostWaiting → Sound T (put l p len)
   puts len least most room =
       let row = set (rowOf l p) (waitingOf l p) len in
       let long = ok .shape .row-length p low in

@@ -1,6 +1,6 @@
 -- "The two figures" of a flow: what it is owed of S bytes, and how long it may wait for the first.
 use mathlib.Core.Bool.{Bool, cond}
-use Prim.Native.Nat.{ℕ, zero, suc, _+_, _*_, _-_}
+use Prim.Native.Nat.{ℕ, zero, suc, _+_, _*_, _-_, _≤_}
 use lib.Dec.{leb}
 use Rattle.drr.specs.declared.Table.{Table}
 use Rattle.drr.specs.State.{quantumOf, maximumOf}
@@ -21,6 +21,11 @@ allMaxima T = total (T .n) (maximumOf T)
 abbrev pub lag : Table → ℕ → ℕ
 lag T i =
     quantumOf T i * (allMaxima T - maximumOf T i) + (allQuanta T - quantumOf T i) * (quantumOf T i + maximumOf T i)
+
+-- "the least whole number that ..", "the least S at which .."
+pub record Least (P : ℕ → Type 0) (x : ℕ) : Type 0 where
+  pub holds : P x
+  pub least : (y : ℕ) → P y → x ≤ y
 
 -- the least number at which the test passes, from x on, of k numbers; the one after them where it passes at none
 unfoldable pub leastFrom : (ℕ → Bool) → ℕ → ℕ → ℕ

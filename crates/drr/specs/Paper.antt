@@ -1,5 +1,5 @@
--- Algorithm 1 of document 000, section III, each line under its printed number, and what document 01 decides where it is silent. The
--- listing's flow i is flow i - 1 here.
+-- Algorithm 1 of document 000, section III, each line under its printed number (7 to 9 are a comment), and what document 01 decides
+-- where it is silent. The listing's flow i is flow i - 1 here.
 use mathlib.Core.Path.{_≡_}
 use mathlib.Core.Bool.{cond, false}
 use mathlib.Core.List.{List, [], _∷_}
@@ -47,7 +47,7 @@ pub data Point : Type 0 where
 
 -- 1 for i= 1 to n do
 -- 2   DC[i] ← 0 ;
--- 3 end
+-- 3 end                  the queues are empty, as in 01's fresh state
 abbrev pub startMemory : Memory
 startMemory = record { deficits = replicate 16 0; counts = replicate 16 0; rows = replicate 16 (replicate 32 0) }
 
@@ -67,7 +67,7 @@ past outside n i = line18 i
 past inside n i = line6 (after n i)
 
 -- 12 (not empty(i)) and
--- 13   (size(head(i)) ≤ DC[i])
+-- 13   (size(head(i)) ≤ DC[i])      a packet's size is 01's charge
 abbrev pub Fits : Memory → ℕ → Type 0
 Fits m i = (0 < count m i) × (charge (head m i) ≤ DC m i)
 
@@ -100,6 +100,7 @@ pub data Runs (T : Table) (r : Reading) : ℕ → ℕ → Point → Memory → A
   zeroes : {v k i : ℕ} {m t : Memory} {a : Answer} {q : Point} → count m i ≡ 0 →
       Runs T r v k (line6 (after (T .n) i)) (assign m i 0) a q t → Runs T r v k (line18 i) m a q t
   -- 20 end
+  -- 21 end, 22 end: on to the next i
   keeps : {v k i : ℕ} {m t : Memory} {a : Answer} {q : Point} → 0 < count m i →
       Runs T r v k (line6 (after (T .n) i)) m a q t → Runs T r v k (line18 i) m a q t
 
@@ -120,7 +121,7 @@ pointIn s = pointOf (s .table) (lineIn (s .line))
 abbrev pub queues : Memory → Line
 queues m = lineOf (m .counts) (m .deficits) (m .rows) (spotAt 0 false)
 
--- 01 books when the line is free: packets come where the listing has sent one, or is idle
+-- 01 books when the line is free: packets come where the listing has not begun, has sent one, or is idle
 pub data Serves (T : Table) (r : Reading) : Point → Memory → List Call → List Answer → Point → Memory → Type 0 where
   ends : {p : Point} {m : Memory} → Serves T r p m [] [] p m
   books : {p q : Point} {m t : Memory} {f x : ℕ} {cs : List Call} {answers : List Answer} →

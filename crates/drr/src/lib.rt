@@ -67,6 +67,7 @@ pub struct Line {
     pub rows: [Row; 16],
 }
 
+// All that a call is given and hands back: the terms, and what moves.
 #[repr(C)]
 pub struct State {
     pub table: Table,
@@ -110,6 +111,7 @@ pub enum PickAnswer {
     Refused(Refusal),
 }
 
+// What an arrival is told.
 pub enum ArrivalAnswer {
     Accepted,
     Refused(Refusal),
@@ -152,12 +154,14 @@ pub struct ArrivedLine {
     pub line: Line,
 }
 
+// What the engine is given of a table beside its arrays.
 pub fn common_of(table: Table) -> Common
     ensures { λ r. ⌜ r ≡ commonIn table ⌝ }
 {
     Common { n: table.n }
 }
 
+// Document 01's number of a refusal.
 pub fn refusal_number(r: Refusal) -> u32
     ensures { λ k. ⌜ k ≡ numberOf r ⌝ }
 {

@@ -15,7 +15,7 @@ use lib.Seq.{drop-drop}
 use Rattle.drr.specs.declared.Table.{Table}
 use Rattle.drr.specs.declared.PickAnswer.{PickAnswer}
 use Rattle.drr.specs.declared.PickAnswer.the-variants.{Idle, Sent, Refused}
-use Rattle.drr.specs.Limits.{mostMaximum}
+use Rattle.drr.specs.Limits.{mostMaximum, mostWaiting}
 use Rattle.drr.specs.State.{Line, waitingOf, maximumOf, freshLine}
 use Rattle.drr.specs.Facts.{Sound, Ranged}
 use Rattle.drr.specs.Answers.{numberOf, Answer, idle, sentAs, lengthIn, pickPaper, Outcome, outcome}
@@ -42,7 +42,7 @@ unfolding arrivalOf
 arrival-waits T l ok f len =
     by-test P (leb (T .n) f) (λ _. none) (λ a. by-test P (eqb len 0) (λ _. none) (λ _.
     by-test P (ltb (maximumOf T f) len) (λ _. none)
-    (λ _. by-test P (leb 32 (waitingOf l f)) (λ _. none) (λ _. put-waits T l ok f len (leb-false (T .n) f a)))))
+    (λ _. by-test P (leb mostWaiting (waitingOf l f)) (λ _. none) (λ _. put-waits T l ok f len (leb-false (T .n) f a)))))
   where
     P : Outcome → Type 0
     P o = waitingAll (o .line) ≡ waitingAll l + cond (eqb (o .answer .refusal) 0) 1 0

@@ -23,13 +23,14 @@ ghost use Rattle.drr.specs.Answers.{numberOf, refusedAt, verdictPaper, reply};
 ghost use Rattle.drr.specs.Setup.{tableFor, flowsAnswer, setupAnswer, setupTable, setupReply, recordsIn};
 ghost use Rattle.scheduler.specs.Copying.{startedOf, putOf};
 
+// The place of a fresh state: the flow before flow 0, round the table.
 fn last_flow(n: usize) -> usize
     ensures { λ r. ⌜ r ≡ n - 1 ⌝ }
 {
     if n == 0 { 0 } else { n - 1 }
 }
 
-// Nothing waits, deficits 0, no visit open, place n-1.
+// Nothing waits, deficits 0, no visit open, place n-1. Public for the reader of a run file, which has a table and no records.
 pub fn fresh(table: Table) -> State
     ensures { λ r. ⌜ r ≡ freshState table ⌝ }
 {
@@ -52,7 +53,7 @@ pub fn fresh(table: Table) -> State
     }
 }
 
-// A refusal gives the empty table.
+// A refusal gives the empty table. Public for the reader of a run file, which has refusals of its own.
 pub fn refused(why: Refusal, place: usize) -> Tabled
     ensures { λ r. ⌜ (verdictPaper (r .answer) ≡ refusedAt (numberOf why) place) × (r .table ≡ noFlows) ⌝ }
 {

@@ -135,22 +135,3 @@ module _ (l : List ℕ) (h : 6 ≤ length l) where
 
   pub line-last : getD l 0 0 ≡ 3 → listingText l ≡ firstLine l
   line-last three = (rw (eq-eqb (getD l 0 0) 3 three) at six-first) ∙ append-nil (firstLine l)
-
--- "A run in full": what `drrrun` prints of that listing
-pub printed : listingText
-    (1 ∷ 0 ∷ 0 ∷ 200 ∷ 300 ∷ 1 ∷
-    2 ∷ 100 ∷ 2 ∷ 700 ∷ 3 ∷ 0 ∷
-    1 ∷ 200 ∷ 2 ∷ 400 ∷ 0 ∷ 2 ∷
-    1 ∷ 600 ∷ 0 ∷ 750 ∷ 50 ∷ 1 ∷
-    1 ∷ 1350 ∷ 1 ∷ 500 ∷ 100 ∷ 1 ∷
-    1 ∷ 1850 ∷ 1 ∷ 250 ∷ 150 ∷ 1 ∷
-    3 ∷ 2100 ∷ 5 ∷ 1 ∷ 0 ∷ 0 ∷ [])
-    ≡ 83 ∷ 32 ∷ 48 ∷ 32 ∷ 48 ∷ 32 ∷ 50 ∷ 48 ∷ 48 ∷ 32 ∷ 51 ∷ 48 ∷ 48 ∷ 32 ∷ 49 ∷ 10 ∷
-    68 ∷ 32 ∷ 49 ∷ 48 ∷ 48 ∷ 32 ∷ 50 ∷ 32 ∷ 55 ∷ 48 ∷ 48 ∷ 32 ∷ 51 ∷ 10 ∷
-    83 ∷ 32 ∷ 50 ∷ 48 ∷ 48 ∷ 32 ∷ 50 ∷ 32 ∷ 52 ∷ 48 ∷ 48 ∷ 32 ∷ 48 ∷ 32 ∷ 50 ∷ 10 ∷
-    83 ∷ 32 ∷ 54 ∷ 48 ∷ 48 ∷ 32 ∷ 48 ∷ 32 ∷ 55 ∷ 53 ∷ 48 ∷ 32 ∷ 53 ∷ 48 ∷ 32 ∷ 49 ∷ 10 ∷
-    83 ∷ 32 ∷ 49 ∷ 51 ∷ 53 ∷ 48 ∷ 32 ∷ 49 ∷ 32 ∷ 53 ∷ 48 ∷ 48 ∷ 32 ∷ 49 ∷ 48 ∷ 48 ∷ 32 ∷ 49 ∷ 10 ∷
-    83 ∷ 32 ∷ 49 ∷ 56 ∷ 53 ∷ 48 ∷ 32 ∷ 49 ∷ 32 ∷ 50 ∷ 53 ∷ 48 ∷ 32 ∷ 49 ∷ 53 ∷ 48 ∷ 32 ∷ 49 ∷ 10 ∷
-    69 ∷ 32 ∷ 50 ∷ 49 ∷ 48 ∷ 48 ∷ 32 ∷ 53 ∷ 32 ∷ 49 ∷ 10 ∷ []
-unfolding listingText lineText kinds decimal places
-printed = refl

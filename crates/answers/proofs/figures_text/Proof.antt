@@ -7,6 +7,7 @@ use lib.ListN.{length}
 use Rattle.drr.specs.Facts.{SoundState}
 use Rattle.drr.specs.Answers.{Answer, Reply, verdictPaper}
 use Rattle.runfile.specs.File.{flowsReply}
+use Rattle.answers.specs.Printed.{figuresRoom, mostSizes}
 use Rattle.answers.proofs.Given.{given, figures-short, figures-many, figures-fit, refusal-fits}
 use Rattle.answers.proofs.FlowLines.{flows-sound, figures-refusal, figures-lines}
 use Rattle.answers.proofs.figures_text.Statement.{statement}
@@ -35,10 +36,10 @@ module _ (x : tie.After-read-flows) where
   abbrev buf : List ℕ
   buf = x .before .before .before .before .before .before .args .buf .now
 
-  room : 7056 ≤ length buf
+  room : figuresRoom ≤ length buf
   room = x .before .before .if1 .left
 
-  few : length sizes ≤ 16
+  few : length sizes ≤ mostSizes
   few = x .before .if2 .left
 
   answered : verdictPaper (x .read-flows .result .answer) ≡ flowsReply file .answer

@@ -4,7 +4,7 @@ use Rattle.io.specs.Counts.{Counts}
 use Rattle.figures.specs.Answers.{figuresWithin}
 use Rattle.text.proofs.Texts.{counted}
 use Rattle.answers.proofs.Given.{as-text}
-use Rattle.answers.proofs.FlowLines.{row-text}
+use Rattle.answers.proofs.FlowLines.{flow-text}
 use Rattle.answers.proofs.put_flow.Statement.{statement}
 use Rattle.answers.proofs.put_flow.Tie as tie
 
@@ -21,7 +21,7 @@ returns c =
     let z = r .before .before .before .before in
     let a = z .args in
     let p = z .pre in
-    let text = row-text (a .s) (p .0) (a .flow) (p .1) (a .sizes .now) (p .2) (replicate 21 0) _ _ (length (a .buf .now)) in
+    let text = flow-text (a .s) (p .0) (a .flow) (p .1) (a .sizes .now) (p .2) (replicate 21 0) _ _ (length (a .buf .now)) in
     as-text _ _ (a .buf .now) _ _ (text (r .all-figures .ensures) (p .3)) (t .numbers-text .ensures)
 
 pub put-flow-spec : {M : Type 1} → statement M

@@ -4,18 +4,19 @@ use Prim.Native.Nat.{ℕ, _+_, _*_, _-_, _≤_, _<_}
 use native.Mathlib.Omega.{arith}
 use lib.ListN.{length, take, drop, length-drop}
 use lib.Seq.{length-sets}
+use Rattle.drr.specs.Limits.{mostFlows}
 use Rattle.drr.specs.declared.Table.{Table}
 use Rattle.text.specs.Text.{numbersText, Put}
 use Rattle.text.proofs.Texts.{Left, left-next, left-end, put-none, filled}
 use Rattle.text.proofs.Lines.{to-end}
-use Rattle.answers.specs.Printed.{flowFigures, flowLines}
-use Rattle.answers.proofs.FlowLines.{row-most, flows-first, flows-next, flows-last, part-put}
+use Rattle.answers.specs.Printed.{flowFigures, flowLines, figuresRoom, flowRoom}
+use Rattle.answers.proofs.FlowLines.{flow-most, flows-first, flows-next, flows-last, part-put}
 use Rattle.answers.proofs.put_flows.Statement.{statement}
 use Rattle.answers.proofs.put_flows.Tie as tie
 
 abbrev Inv-loop : tie.InvT-loop
 Inv-loop s sizes buf₀ n at₀ flow₀ buf at flow =
-    (at ≤ 441 * flow) × Left buf₀ 0 (flowLines (s .table) sizes 0 n) buf at (flowLines (s .table) sizes flow (n - flow))
+    (at ≤ flowRoom * flow) × Left buf₀ 0 (flowLines (s .table) sizes 0 n) buf at (flowLines (s .table) sizes flow (n - flow))
 
 abbrev μ-loop : tie.MeasureT-loop
 μ-loop s sizes buf₀ n at₀ flow₀ buf at flow = n - flow
@@ -28,7 +29,7 @@ module _ (z : tie.Start Inv-loop μ-loop) where
   abbrev sizes : List ℕ
   sizes = z .args .sizes .now
 
-  few-flows : T .n ≤ 16
+  few-flows : T .n ≤ mostFlows
   few-flows = z .pre .0 .flows-few
 
 loop-holds : tie.Need-loop-holds Inv-loop μ-loop
@@ -50,13 +51,13 @@ module _ (c : tie.In-loop Inv-loop μ-loop) where
   abbrev line : List ℕ
   line = numbersText (flowFigures (T z) (sizes z) (c .before .loop .flow))
 
-  fits : at + 441 ≤ length b
+  fits : at + flowRoom ≤ length b
   fits = omega (arith, c .before .loop .inv .0, c .before .loop .inv .1 .size, c .loop-test .taken, few-flows z, z .pre .2)
 
-  short : length line ≤ 441
-  short = row-most (T z) (sizes z) (z .pre .1) (c .before .loop .flow)
+  short : length line ≤ flowRoom
+  short = flow-most (T z) (sizes z) (z .pre .1) (c .before .loop .flow)
 
-  room : 441 ≤ length (take (length b - at) (drop at b))
+  room : flowRoom ≤ length (take (length b - at) (drop at b))
   room = omega (arith, fits, ap length (to-end at b), length-drop at b)
 
 -- after it
@@ -71,7 +72,7 @@ module _ (p : tie.After-put-flow Inv-loop μ-loop) where
   put = part-put (b i) (at i) (line i) _ _ (omega (arith, fits i, short i)) (p .put-flow .ensures)
 
   -- far below 64 bits
-  grown : (at i + p .put-flow .result ≤ 7056) × (i .before .loop .flow < 16)
+  grown : (at i + p .put-flow .result ≤ figuresRoom) × (i .before .loop .flow < 16)
   grown =
       let low = few-flows (z i) in
       (omega (arith, i .before .loop .inv .0, i .loop-test .taken, short i, p .put-flow .ensures .0), omega (arith, i .loop-test .taken))

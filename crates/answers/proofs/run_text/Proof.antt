@@ -6,6 +6,7 @@ use borrow.Author.Needs.{needs}
 use lib.ListN.{length, length-replicate}
 use Rattle.drr.specs.Answers.{Answer, verdictPaper}
 use Rattle.text.specs.Text.{listingText}
+use Rattle.answers.specs.Printed.{runRoom}
 use Rattle.answers.proofs.Given.{given, run-short, run-fits, refusal-fits, listing-fits}
 use Rattle.answers.proofs.Shown.{run-refusal, run-listing}
 use Rattle.answers.proofs.run_text.Statement.{statement}
@@ -24,7 +25,7 @@ module _ (x : tie.After-run) where
   abbrev buf : List ℕ
   buf = x .before .before .before .before .before .args .buf .now
 
-  room : 110700 ≤ length buf
+  room : runRoom ≤ length buf
   room = x .before .before .if1 .left
 
 returns-2 : tie.Need-returns-2

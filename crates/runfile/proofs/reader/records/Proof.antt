@@ -6,6 +6,7 @@ use native.Mathlib.Omega.{arith}
 use borrow.Author.Needs.{needs}
 use lib.ListN.{set, take, replicate}
 use lib.Seq.{paste, take-paste, take-all}
+use Rattle.drr.specs.Limits.{mostFlows}
 use Rattle.drr.specs.declared.FlowRecord.{FlowRecord}
 use Rattle.drr.proofs.Copies.{copy-turn}
 use Rattle.drr.proofs.Tables.{none}
@@ -25,7 +26,7 @@ abbrev μ-loop : tie.MeasureT-loop
 μ-loop t n records₀ i₀ records i = n - i
 
 -- the record that was read is the list's
-put-next : (t : List ℕ) (n i q m : ℕ) (rs : List FlowRecord) → n ≤ 16 → i < n → rs ≡ paste zeros 0 (flowsFrom t 0 n) i →
+put-next : (t : List ℕ) (n i q m : ℕ) (rs : List FlowRecord) → n ≤ mostFlows → i < n → rs ≡ paste zeros 0 (flowsFrom t 0 n) i →
     q ≡ le4 t (8 * i) → m ≡ le4 t (8 * i + 4) → set rs i (record { quantum = q; maximum = m }) ≡ paste zeros 0 (flowsFrom t 0 n) (i + 1)
 put-next t n i q m rs few l is is-q is-m =
     let e = flow-at t 0 n i l ∙ ap (λ (k : ℕ). record { quantum = le4 t (8 * k); maximum = le4 t (8 * k + 4) }) (zero-add i) in

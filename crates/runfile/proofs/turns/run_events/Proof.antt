@@ -225,7 +225,7 @@ within a more = omega (arith, given a .0)
 small : (a : tie.At-loop Inv-loop μ-loop) → a .loop .at ≤ mostEvents
 small a = omega (arith, a .loop .inv .at-most, given a .1)
 
-now-small : (a : tie.At-loop Inv-loop μ-loop) → a .loop .now ≤ 4304404480
+now-small : (a : tie.At-loop Inv-loop μ-loop) → a .loop .now ≤ 4294967296 + mostMaximum * mostEvents
 now-small a = omega (arith, a .loop .inv .now-most, few a)
 
 loop-holds : tie.Need-loop-holds Inv-loop μ-loop
