@@ -1,6 +1,7 @@
 //! Calls the proved library and the second program on the same states with the same numbers, and
 //! compares answer and state after every call. Along chains of calls from a fresh state it also
-//! checks the floor: what each flow was sent against what it is owed.
+//! checks the floor: what each flow was sent against what it is owed. With '--caught' it ends at the
+//! first difference, which is all that a wrong variant has to show.
 
 mod dice;
 mod drr;
@@ -26,6 +27,7 @@ struct Tally {
     figures: u64,
     long_waits: u64,
     differ: u64,
+    to_first: bool,
 }
 
 impl Tally {
@@ -39,6 +41,10 @@ impl Tally {
             self.differ += 1;
             if self.differ <= 3 {
                 println!("differs: {call}\n  proved {proved:?}\n  second {second:?}");
+            }
+            if self.to_first {
+                println!("call {}, {call}", self.calls());
+                std::process::exit(1);
             }
         }
     }
@@ -251,7 +257,10 @@ fn chain(tally: &mut Tally, floor: &mut Floor, dice: &mut Dice) {
 }
 
 fn main() {
-    let mut tally = Tally::default();
+    let mut tally = Tally {
+        to_first: std::env::args().nth(1).as_deref() == Some("--caught"),
+        ..Tally::default()
+    };
     let mut floor = Floor::default();
     let mut dice = Dice(1995);
     try_setups(&mut tally, &mut dice);

@@ -10,7 +10,8 @@ use Rattle.drr.specs.Answers.{Answer, numberOf, refusedAt}
 use Rattle.drr.proofs.Papers.{number-some}
 use Rattle.text.specs.Text.{refusalText, refusalWithin, listingText, listingWithin, overlaid}
 use Rattle.text.proofs.Texts.{Filled, counted}
-use Rattle.answers.specs.Printed.{answerText, runText, runTextWithin, figuresText, figuresTextWithin, figuresRoom, mostSizes, runRoom}
+use Rattle.answers.specs.Printed.{answerText, runText, runTextWithin, figuresText, figuresTextWithin}
+use Rattle.answers.specs.Printed.{runRoom, figuresRoom, mostSizes}
 
 -- the text W at the start of the buffer b gives b', and r is how many bytes it has
 abbrev pub Given : List ℕ → List ℕ → List ℕ → ℕ → Type 0

@@ -14,6 +14,7 @@ ghost use Rattle.answers.specs.Printed.{mostSizes, flowRoom, figuresRoom
 
 // Bytes that are room for any run's text, and for the figures of any table.
 pub const RUN_ROOM: usize = 110700;
+
 pub const FIGURES_ROOM: usize = 7056;
 // How many numbers of bytes may be asked.
 pub const MOST_SIZES: usize = 16;

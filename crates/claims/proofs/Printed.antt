@@ -1,4 +1,5 @@
--- What `run_text` and `figures_text` give for document 01's run in full, by the definitions that they meet, as theorems about its 92 bytes.
+-- What `run_text` and `figures_text` give for document 01's run in full, by the definitions that they meet, as theorems about its
+-- 92 bytes.
 use mathlib.Core.Path.{_≡_, refl}
 use mathlib.Core.List.{List, [], _∷_, _++_}
 use Prim.Native.Nat.{ℕ, _+_, _*_, _-_, _/_, _<_}

@@ -38,7 +38,8 @@ pub arrival-refused : (T : Table) (l : Line) (f len : ℕ) → (arrivalOf T l f 
 unfolding arrivalOf
 arrival-refused T l f len =
     by-test P (leb (T .n) f) (λ _ _. refl) (λ _. by-test P (eqb len 0) (λ _ _. refl) (λ _.
-    by-test P (ltb (maximumOf T f) len) (λ _ _. refl) (λ _. by-test P (leb mostWaiting (waitingOf l f)) (λ _ _. refl) (λ _ no. absurd (no refl)))))
+    by-test P (ltb (maximumOf T f) len) (λ _ _. refl) (λ _.
+    by-test P (leb mostWaiting (waitingOf l f)) (λ _ _. refl) (λ _ no. absurd (no refl)))))
   where
     P : Outcome → Type 0
     P o = (o .answer .refusal ≡ 0 → ⊥) → o .line ≡ l

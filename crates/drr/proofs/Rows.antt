@@ -63,7 +63,8 @@ module _ (T : Table) (i : ℕ) (i<n : i < T .n) where
     arrival-adds =
         by-test P (leb (T .n) f) (λ _. none) (λ a. by-test P (eqb len 0) (λ _. none) (λ _.
         by-test P (ltb (maximumOf T f) len) (λ _. none)
-        (λ _. by-test P (leb mostWaiting (waitingOf l f)) (λ _. none) (λ d. put-adds (leb-false (T .n) f a) (leb-false mostWaiting (waitingOf l f) d)))))
+        (λ _. by-test P (leb mostWaiting (waitingOf l f)) (λ _. none) (λ d.
+        put-adds (leb-false (T .n) f a) (leb-false mostWaiting (waitingOf l f) d)))))
       where
         none : lengthsIn l i ≡ lengthsIn l i ++ []
         none = sym (append-nil (lengthsIn l i))

@@ -11,7 +11,7 @@ use lib.ListN.{length, getD, take, drop, length-append, length-take, length-drop
 use lib.Seq.{drop-cons, take-all}
 use Rattle.text.specs.declared.Form.{Form}
 use Rattle.text.specs.declared.Form.the-variants.{Line, NoLine}
-use Rattle.text.specs.Text.{places, decimal, fieldText, fieldsText, numbersText, Put}
+use Rattle.text.specs.Text.{decimal, fieldText, fieldsText, numbersText, Put}
 use Rattle.text.specs.Text.{formText, fieldsIn, kinds, formIn, lineText, listingText}
 use Rattle.text.proofs.Texts.{decimal-most}
 

@@ -27,14 +27,17 @@ returns-2 c =
 
 -- the file's flows are read
 module _ (x : tie.After-read-flows) where
+  abbrev start : tie.Start
+  start = x .before .before .before .before .before .before
+
   abbrev file : List ℕ
-  file = x .before .before .before .before .before .before .args .file .now
+  file = start .args .file .now
 
   abbrev sizes : List ℕ
-  sizes = x .before .before .before .before .before .before .args .sizes .now
+  sizes = start .args .sizes .now
 
   abbrev buf : List ℕ
-  buf = x .before .before .before .before .before .before .args .buf .now
+  buf = start .args .buf .now
 
   room : figuresRoom ≤ length buf
   room = x .before .before .if1 .left

@@ -19,11 +19,14 @@ returns c =
 
 -- the run of the file, in a list of 6,150 numbers
 module _ (x : tie.After-run) where
+  abbrev start : tie.Start
+  start = x .before .before .before .before .before
+
   abbrev file : List ℕ
-  file = x .before .before .before .before .before .args .file .now
+  file = start .args .file .now
 
   abbrev buf : List ℕ
-  buf = x .before .before .before .before .before .args .buf .now
+  buf = start .args .buf .now
 
   room : runRoom ≤ length buf
   room = x .before .before .if1 .left

@@ -262,12 +262,12 @@ run-events-spec =
     (λ c. omega (arith, small (A (c .before .before))))
     (λ c κs. omega (arith, within (A (c .before .before)) (come (c .before .before) .0)))
     (λ c. omega (arith, c .before .before .before .le22 .ensures .1))
-    (λ c κs. sound-bookable (A (c .before .before .before .before .before .before) .loop .inv .sound))
-    (λ c κs. let a = A (c .before .before .before .before .before .before .before .before) in (fits a, few a))
+    (λ c κs. let e = c .before .before .before .before .before .before in sound-bookable (A e .loop .inv .sound))
+    (λ c κs. let e = c .before .before .before .before .before .before .before .before in (fits (A e), few (A e)))
     (λ c. omega (arith, small (A (D (c .before .before)))))
     loop-less
     loop-again
-    (λ c κs. c .before .before .before .before .before .before .before .loop .inv .sound)
+    (λ c κs. let e = c .before .before .before .before .before .before .before in e .loop .inv .sound)
     (λ c. search needs)
     (λ c. omega (arith, few (A₂ (c .before .before .before))))
     (λ c κs. let a = A₂ (c .before .before .before) in (fits a, few a))
