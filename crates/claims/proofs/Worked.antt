@@ -14,15 +14,8 @@ use Rattle.drr.specs.Computed.{lookFor}
 use Rattle.drr.specs.Setup.{setupAnswer, setupTable, setupReply}
 use Rattle.drr.specs.Figures.{leastFrom, owed}
 use Rattle.drr.specs.Floor.{Call, arrives, picks, afterCalls, bytesSent, flowSent, WaitsAtPicks}
+use Rattle.figures.specs.Vectors.{flow, worked}
 use Rattle.claims.proofs.Claims.{setup-sound, the-floor}
-
--- "Flows: 0 has Q 500, l 800; 1 has 300, 800; 2 has 400, 600."
-abbrev flows : List FlowRecord
-flows =
-    record { quantum = 500; maximum = 800 }
-    ∷ record { quantum = 300; maximum = 800 }
-    ∷ record { quantum = 400; maximum = 600 }
-    ∷ []
 
 -- the four packets that arrive at tick 0 ..
 abbrev before : List Call
@@ -33,7 +26,7 @@ abbrev stretch : List Call
 stretch = picks ∷ arrives 2 700 ∷ picks ∷ picks ∷ arrives 1 250 ∷ picks ∷ picks ∷ []
 
 abbrev then : State
-then = afterCalls (setupReply flows .state) before
+then = afterCalls (setupReply worked .state) before
 
 pub record Run : Type 0 where
   pub waits : WaitsAtPicks then stretch 1
@@ -49,13 +42,13 @@ run = record {
 }
 
 -- so the floor speaks of it
-pub floor-here : owed (setupReply flows .state .table) 1 (bytesSent then stretch) ≤ flowSent then stretch 1
+pub floor-here : owed (setupReply worked .state .table) 1 (bytesSent then stretch) ≤ flowSent then stretch 1
 unfolding setupAnswer setupTable
-floor-here = the-floor (setupReply flows .state) (setup-sound flows) before stretch 1 (lit< tt) (run .waits)
+floor-here = the-floor (setupReply worked .state) (setup-sound worked) before stretch 1 (lit< tt) (run .waits)
 
 -- ---- two flows of quantum 1 and maximum 1, three packets each, four picks: of the 4 bytes flow 1 is owed 1, and receives 2
 abbrev pair : List FlowRecord
-pair = record { quantum = 1; maximum = 1 } ∷ record { quantum = 1; maximum = 1 } ∷ []
+pair = flow 1 1 ∷ flow 1 1 ∷ []
 
 abbrev arrivals : List Call
 arrivals = arrives 0 1 ∷ arrives 0 1 ∷ arrives 0 1 ∷ arrives 1 1 ∷ arrives 1 1 ∷ arrives 1 1 ∷ []

@@ -25,25 +25,25 @@ abbrev pub twins : List FlowRecord
 twins = flow 1500 1500 ∷ flow 1500 1500 ∷ []
 
 -- ---- a vector
--- what is asked of a flow
-pub data Asked : Type 0 where
-  itsC : Asked
-  itsWait : Asked
-  itsOwed : ℕ → Asked
+-- which figure of a flow
+pub data Which : Type 0 where
+  itsC : Which
+  itsWait : Which
+  itsOwed : ℕ → Which
 
-abbrev pub told : Table → ℕ → Asked → ℕ
-told T i itsC = lag T i
-told T i itsWait = wait T i
-told T i (itsOwed S) = owed T i S
+abbrev pub figureOf : Table → ℕ → Which → ℕ
+figureOf T i itsC = lag T i
+figureOf T i itsWait = wait T i
+figureOf T i (itsOwed S) = owed T i S
 
 -- a figure of a flow and its value; two such; or a pick from the fresh state
 pub data Vector : Type 0 where
-  figure : List FlowRecord → ℕ → Asked → ℕ → Vector
+  figure : List FlowRecord → ℕ → Which → ℕ → Vector
   both : Vector → Vector → Vector
   freshPick : List FlowRecord → Vector
 
 abbrev pub Holds : Vector → Type 0
-Holds (figure flows i asked value) = told (tableFor flows) i asked ≡ value
+Holds (figure flows i which value) = figureOf (tableFor flows) i which ≡ value
 Holds (both a b) = Holds a × Holds b
 Holds (freshPick flows) = pickReply (freshState (tableFor flows)) ≡ reply idle (freshState (tableFor flows))
 
