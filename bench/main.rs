@@ -5,19 +5,11 @@
 use std::collections::VecDeque;
 use std::time::Instant;
 
-// What the proved run answers: refusal number and place.
-#[repr(C)]
-struct Fault {
-    refusal: u32,
-    place: usize,
-}
-
-extern "C" {
-    fn wikulambag_run(file: *const u8, size: usize, out: *mut u64, room: usize) -> Fault;
-}
+#[path = "../include/wikulambag.rs"]
+mod wikulambag;
 
 fn proved_run(file: &[u8], out: &mut [u64]) -> u32 {
-    unsafe { wikulambag_run(file.as_ptr(), file.len(), out.as_mut_ptr(), out.len()) }.refusal
+    wikulambag::run(file, out).refusal
 }
 
 fn le2(b: &[u8], at: usize) -> usize {

@@ -10,7 +10,11 @@ mod states;
 
 use dice::Dice;
 use drr::{Picked, State};
-use proved::Told;
+use proved::{told_figure, told_pick};
+use wikulambag::{
+    wikulambag_arrival, wikulambag_lag, wikulambag_owed, wikulambag_pick, wikulambag_setup,
+    wikulambag_sound, wikulambag_wait, ArrivalResult, FlowList, SetupResult,
+};
 
 const STATES: usize = 60_000;
 const CHAINS: usize = 300;
@@ -50,51 +54,26 @@ impl Tally {
     }
 }
 
-fn told(refusal: u32, numbers: &[u64]) -> Told {
-    let mut told = [0; 6];
-    told[0] = refusal.into();
-    told[1] = numbers.len() as u64;
-    told[2..2 + numbers.len()].copy_from_slice(numbers);
-    told
-}
-
-fn told_pick(answer: Picked) -> Told {
-    match answer {
-        Picked::Idle => told(0, &[]),
-        Picked::Sent {
-            flow,
-            length,
-            deficit,
-            visits,
-        } => told(
-            0,
-            &[flow as u64, length.into(), deficit.into(), visits.into()],
-        ),
-        Picked::Refused(number) => told(number, &[0; 4]),
-    }
-}
-
-fn told_figure(answer: Result<u64, u32>) -> Told {
-    match answer {
-        Ok(value) => told(0, &[value]),
-        Err(number) => told(number, &[0]),
-    }
-}
+/// A state as the proved library has it.
+type Ours = wikulambag::State;
 
 /// An arrival by both.
-fn arrival(tally: &mut Tally, ours: &mut State, theirs: &mut State, flow: usize, length: u32) {
-    let proved = proved::arrival(ours, flow, length);
-    let second = told(drr::arrival(theirs, flow, length), &[]);
+fn arrival(tally: &mut Tally, ours: &mut Ours, theirs: &mut State, flow: usize, length: u32) {
+    let proved = wikulambag_arrival(*ours, flow, length);
+    let refusal = drr::arrival(theirs, flow, length);
+    let state = Ours::from(&*theirs);
     tally.arrivals += 1;
-    tally.compare("arrival", &(proved, &*ours), &(second, &*theirs));
+    tally.compare("arrival", &proved, &ArrivalResult { refusal, state });
+    *ours = proved.state;
 }
 
 /// A pick by both; the second program's answer.
-fn pick(tally: &mut Tally, ours: &mut State, theirs: &mut State) -> Picked {
-    let proved = proved::pick(ours);
+fn pick(tally: &mut Tally, ours: &mut Ours, theirs: &mut State) -> Picked {
+    let proved = wikulambag_pick(*ours);
     let second = drr::pick(theirs);
     tally.picks += 1;
-    tally.compare("pick", &(proved, &*ours), &(told_pick(second), &*theirs));
+    tally.compare("pick", &proved, &told_pick(second, theirs));
+    *ours = proved.state;
     second
 }
 
@@ -105,10 +84,12 @@ fn figures(tally: &mut Tally, s: &State, dice: &mut Dice) {
     let any = dice.next() as u32;
     let bytes = dice.one_of(&[0, 1, 10_000, 1_000_000, any, any >> 12, u32::MAX]);
     let owed = told_figure(drr::owed(s, flow, bytes.into()));
-    tally.compare("owed", &proved::owed(s, flow, bytes), &owed);
+    tally.compare("owed", &wikulambag_owed(s.into(), flow, bytes), &owed);
     let wait = told_figure(drr::wait(s, flow));
-    tally.compare("wait", &proved::wait(s, flow), &wait);
-    tally.figures += 2;
+    tally.compare("wait", &wikulambag_wait(s.into(), flow), &wait);
+    let lag = told_figure(drr::lag(s, flow));
+    tally.compare("lag", &wikulambag_lag(s.into(), flow), &lag);
+    tally.figures += 3;
 }
 
 /// The waits of small quanta beside large ones: the longest there are, past 32 bits.
@@ -121,7 +102,8 @@ fn long_waits(tally: &mut Tally) {
             s.maxima = [9_216; 16];
             s.quanta[flow] = quantum;
             let wait = drr::wait(&s, flow);
-            tally.compare("long wait", &proved::wait(&s, flow), &told_figure(wait));
+            let proved = wikulambag_wait(Ours::from(&s), flow);
+            tally.compare("long wait", &proved, &told_figure(wait));
             tally.figures += 1;
             tally.long_waits += u64::from(wait.is_ok_and(|bytes| bytes > u64::from(u32::MAX)));
         }
@@ -143,12 +125,12 @@ fn packet(s: &State, dice: &mut Dice) -> (usize, u32) {
 /// Every call on one state, each from the state as it came.
 fn try_state(tally: &mut Tally, s: &State, dice: &mut Dice) {
     tally.soundness += 1;
-    tally.compare("sound", &proved::sound(s), &drr::sound(s));
+    tally.compare("sound", &wikulambag_sound(s.into()), &drr::sound(s));
     for _ in 0..2 {
         let (flow, length) = packet(s, dice);
-        arrival(tally, &mut s.clone(), &mut s.clone(), flow, length);
+        arrival(tally, &mut s.into(), &mut s.clone(), flow, length);
     }
-    pick(tally, &mut s.clone(), &mut s.clone());
+    pick(tally, &mut s.into(), &mut s.clone());
     figures(tally, s, dice);
 }
 
@@ -176,15 +158,18 @@ fn try_states(tally: &mut Tally, dice: &mut Dice) -> [u64; states::BREAKS.len()]
 fn try_setups(tally: &mut Tally, dice: &mut Dice) {
     for _ in 0..SETUPS {
         let list = states::records(dice);
-        // what stood there before must not show
-        let mut ours = states::any_state(dice);
-        let proved = proved::setup(&list, &mut ours);
-        let (second, theirs) = match drr::setup(&list) {
-            Ok(state) => (told(0, &[0]), state),
-            Err(r) => (told(r.number, &[r.place as u64]), drr::empty()),
+        let proved = wikulambag_setup(FlowList::of(&list));
+        let (refusal, place, theirs) = match drr::setup(&list) {
+            Ok(state) => (0, 0, state),
+            Err(r) => (r.number, r.place, drr::empty()),
+        };
+        let second = SetupResult {
+            refusal,
+            place,
+            state: Ours::from(&theirs),
         };
         tally.setups += 1;
-        tally.compare("setup", &(proved, ours), &(second, theirs));
+        tally.compare("setup", &proved, &second);
     }
 }
 
@@ -237,7 +222,7 @@ impl Floor {
 /// arrivals. In some chains arrivals outnumber picks, so that flows wait for long.
 fn chain(tally: &mut Tally, floor: &mut Floor, dice: &mut Dice) {
     let mut theirs = drr::setup(&states::flows(dice)).expect("a table within the limits");
-    let mut ours = theirs.clone();
+    let mut ours = Ours::from(&theirs);
     let mut stretches = vec![Stretch::default(); theirs.n];
     let arrivals = dice.between(1, 5);
     for call in 0..CHAIN_CALLS {

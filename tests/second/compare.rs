@@ -10,6 +10,7 @@ use std::process::exit;
 
 mod drr;
 mod process;
+mod stored;
 
 fn main() {
     let words: Vec<String> = std::env::args().skip(1).collect();
@@ -50,8 +51,7 @@ fn compare(drrrun: &str, answers: &str) -> Result<bool> {
             println!("{fault}");
         }
         count_refusals(&given, &mut seen);
-        stored.extend(format!("{} {}\n", file.name, given.len()).bytes());
-        stored.extend(given);
+        stored::add(&mut stored, &file.name, &given);
     }
     std::fs::write(answers, stored)?;
     let all_seen = report_refusals(&seen);
@@ -117,34 +117,6 @@ fn report_refusals(seen: &[usize; 15]) -> bool {
 }
 
 fn caught(answers: &str) -> Result<bool> {
-    let stored = std::fs::read(answers)?;
-    let mut rest = &stored[..];
-    let mut differ = Vec::new();
-    for file in files::all() {
-        let given = next_answer(&mut rest, &file.name)
-            .ok_or_else(|| Error::other(format!("{answers} has no answer for {}", file.name)))?;
-        if second(&file) != given {
-            differ.push(file.name);
-        }
-    }
-    if !rest.is_empty() {
-        return Err(Error::other(format!(
-            "{answers} has more answers than files"
-        )));
-    }
-    match differ.first() {
-        Some(first) => println!("{} files, first {first}", differ.len()),
-        None => println!("no file differs"),
-    }
-    Ok(!differ.is_empty())
-}
-
-/// The next stored answer, which must be this file's: a line `NAME BYTES`, then so many bytes.
-fn next_answer<'a>(rest: &mut &'a [u8], name: &str) -> Option<&'a [u8]> {
-    let end = rest.iter().position(|&byte| byte == b'\n')?;
-    let line = std::str::from_utf8(&rest[..end]).ok()?;
-    let size: usize = line.strip_prefix(name)?.trim_start().parse().ok()?;
-    let answer = rest.get(end + 1..end + 1 + size)?;
-    *rest = &rest[end + 1 + size..];
-    Some(answer)
+    let own = |file: files::File| (second(&file), file.name);
+    stored::caught(answers, files::all().into_iter().map(own), "file")
 }

@@ -272,6 +272,12 @@ pub fn wait(s: &State, flow: usize) -> Result<u64, u32> {
     }))
 }
 
+/// C of a flow, asked as a figure; refusals 8 and 1.
+pub fn lag(s: &State, flow: usize) -> Result<u64, u32> {
+    owed(s, flow, 0)?;
+    Ok(charge_c(s, flow) as u64)
+}
+
 /// The least number that holds. What holds for one number holds for all above it, and for `most`,
 /// so halving finds it.
 fn least(most: u64, holds: impl Fn(u64) -> bool) -> u64 {
@@ -526,26 +532,66 @@ fn line_text(line: &[u64; 6]) -> String {
     text + "\n"
 }
 
+/// How `drrfigures` is asked to print its figures.
+#[derive(Clone, Copy, Default, Debug)]
+pub struct Dress {
+    /// First a line of column titles.
+    pub header: bool,
+    /// A comma in place of each space.
+    pub csv: bool,
+    /// The wait in seconds too, on a line of so many bits a second.
+    pub rate: Option<u64>,
+}
+
 /// What `drrfigures` prints for a file: for each flow its number, quantum, maximum, C, wait, and
-/// owed for each number of bytes.
-pub fn figures_text(file: &[u8], sizes: &[u32]) -> String {
+/// owed for each number of bytes; with a rate also the wait in seconds.
+pub fn figures_text(file: &[u8], sizes: &[u32], dress: Dress) -> String {
     let state = match read_flows(file).and_then(|flows| setup(&flows)) {
         Ok(state) => state,
         Err(refused) => return text(&Err(refused)),
     };
-    let line = |flow: usize| {
-        let c = charge_c(&state, flow);
-        let wait = wait(&state, flow).unwrap_or(0);
-        let mut line = format!(
-            "{flow} {} {} {c} {wait}",
-            state.quanta[flow], state.maxima[flow]
-        );
-        for &bytes in sizes {
-            line += &format!(" {}", owed(&state, flow, bytes.into()).unwrap_or(0));
-        }
-        line + "\n"
-    };
-    (0..state.n).map(line).collect()
+    let lines = (0..state.n).map(|flow| figures_of(&state, flow, sizes, dress.rate));
+    let titles = dress.header.then(|| titles(sizes, dress.rate));
+    let parting = if dress.csv { "," } else { " " };
+    let rows = titles.into_iter().chain(lines);
+    rows.map(|row| row.join(parting) + "\n").collect()
+}
+
+/// The titles of the columns.
+fn titles(sizes: &[u32], rate: Option<u64>) -> Vec<String> {
+    let first = ["flow", "quantum", "maximum", "C", "wait"];
+    let mut titles = first.map(String::from).to_vec();
+    titles.extend(sizes.iter().map(|bytes| format!("owed_{bytes}")));
+    titles.extend(rate.map(|_| "wait_seconds".to_string()));
+    titles
+}
+
+/// The fields of a flow's line.
+fn figures_of(s: &State, flow: usize, sizes: &[u32], rate: Option<u64>) -> Vec<String> {
+    let wait = wait(s, flow).unwrap_or(0);
+    let mut fields = vec![
+        flow.to_string(),
+        s.quanta[flow].to_string(),
+        s.maxima[flow].to_string(),
+        charge_c(s, flow).to_string(),
+        wait.to_string(),
+    ];
+    for &bytes in sizes {
+        fields.push(owed(s, flow, bytes.into()).unwrap_or(0).to_string());
+    }
+    fields.extend(rate.map(|rate| seconds(wait, rate)));
+    fields
+}
+
+/// The seconds that a line of `rate` bits a second takes for so many bytes, rounded up to a
+/// hundred-millionth.
+fn seconds(bytes: u64, rate: u64) -> String {
+    let bits = u128::from(bytes) * 8;
+    // the least time that is long enough to send the bits; a bit a second is the slowest line
+    let enough = |time: u64| u128::from(time) * u128::from(rate) >= bits * 100_000_000;
+    let time = least(u64::MAX, enough);
+    let (whole, part) = (time / 100_000_000, time % 100_000_000);
+    format!("{whole}.{part:08}")
 }
 
 #[cfg(test)]
@@ -721,8 +767,36 @@ mod tests {
                         2 400 600 1440000 3601 0 0 2134 32134 332134\n";
         let sizes = [3_220, 3_221, 10_000, 100_000, 1_000_000];
         let unsorted = file(&TABLE, &[(1, 0, 1), (0, 0, 1)]);
-        assert_eq!(figures_text(&unsorted, &sizes), expected);
-        assert_eq!(figures_text(&unsorted[1..], &[1]), "R 9 0\n");
+        let plain = Dress::default();
+        assert_eq!(figures_text(&unsorted, &sizes, plain), expected);
+        assert_eq!(figures_text(&unsorted[1..], &[1], plain), "R 9 0\n");
+    }
+
+    #[test]
+    fn dressed_figures_of_the_worked_example() {
+        let expected = "flow,quantum,maximum,C,wait,owed_10000,owed_1000000,wait_seconds\n\
+                        0,500,800,1610000,3221,2825,415325,0.00257680\n\
+                        1,300,800,1410000,4701,1325,248825,0.00376080\n\
+                        2,400,600,1440000,3601,2134,332134,0.00288080\n";
+        let dress = Dress {
+            header: true,
+            csv: true,
+            rate: Some(10_000_000),
+        };
+        let worked = file(&TABLE, &[]);
+        assert_eq!(figures_text(&worked, &[10_000, 1_000_000], dress), expected);
+        assert_eq!(figures_text(&worked[1..], &[1], dress), "R 9 0\n");
+    }
+
+    /// A wait in seconds: at the ends of the rates, whole, and just above a hundred-millionth.
+    #[test]
+    fn waits_in_seconds() {
+        assert_eq!(seconds(9_060_827_137, 1), "72486617096.00000000");
+        assert_eq!(seconds(1, 1_000_000_000_000), "0.00000001");
+        assert_eq!(seconds(1_250, 1_000_000_000_000), "0.00000001");
+        assert_eq!(seconds(1_251, 1_000_000_000_000), "0.00000002");
+        assert_eq!(seconds(1, 3), "2.66666667");
+        assert_eq!(seconds(3_221, 10_000_000), "0.00257680");
     }
 
     #[test]

@@ -1,13 +1,24 @@
-//! The second `drrrun`: a run file on standard input, its listing on standard output.
+//! The second program as a program: standard input to standard output. Without a word it is `drrrun`, which
+//! lists the run of a file; the words `drrmake` and `drrshow` make it those two.
 
-use std::io::{stdin, stdout, Read, Result, Write};
+use std::io::{stderr, stdin, stdout, Error, Read, Result, Write};
 
 mod drr;
+mod textform;
 
 fn main() -> Result<()> {
-    let mut file = Vec::new();
-    stdin().read_to_end(&mut file)?;
-    // room for 1,025 lines of six numbers: refusal 14 cannot occur here
-    let answer = drr::run(&file, 6 * 1_025);
-    stdout().write_all(drr::text(&answer).as_bytes())
+    let mut input = Vec::new();
+    stdin().read_to_end(&mut input)?;
+    let (output, error) = match std::env::args().nth(1).as_deref() {
+        // room for 1,025 lines of six numbers: refusal 14 cannot occur here
+        None => (
+            drr::text(&drr::run(&input, 6 * 1_025)).into_bytes(),
+            String::new(),
+        ),
+        Some("drrmake") => textform::made(&input),
+        Some("drrshow") => (textform::show(&input).into_bytes(), String::new()),
+        Some(word) => return Err(Error::other(format!("no such program: {word}"))),
+    };
+    stderr().write_all(error.as_bytes())?;
+    stdout().write_all(&output)
 }

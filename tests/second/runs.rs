@@ -3,9 +3,8 @@
 //! for a file that is not refused also with one just long enough and one a number short.
 
 mod drr;
-mod proved;
 
-use proved::Fault;
+use wikulambag::RunResult;
 
 /// Room for 1,025 lines of six numbers.
 const LONGEST: usize = 6 * 1_025;
@@ -16,11 +15,11 @@ fn before(room: usize) -> Vec<u64> {
 }
 
 /// An answer, and the lent list after the run.
-type Ran = (Fault, Vec<u64>);
+type Ran = (RunResult, Vec<u64>);
 
 fn by_proved(file: &[u8], room: usize) -> Ran {
     let mut list = before(room);
-    (proved::run(file, &mut list), list)
+    (wikulambag::run(file, &mut list), list)
 }
 
 fn by_second(file: &[u8], room: usize) -> Ran {
@@ -33,7 +32,7 @@ fn by_second(file: &[u8], room: usize) -> Ran {
         }
         Err(refused) => (refused.number, refused.place),
     };
-    (Fault { refusal, place }, list)
+    (RunResult { refusal, place }, list)
 }
 
 fn main() {

@@ -1,12 +1,13 @@
 -- What is printed of a file's flows, a line each.
 use mathlib.Core.Path.{_≡_, refl, sym, ap, subst, _∙_}
+use mathlib.Core.Bool.{Bool, true, false, cond}
 use mathlib.Core.List.{List, [], _∷_, _++_, map, append-nil, append-assoc}
 use Prim.Native.Nat.{ℕ, zero, suc, _+_, _*_, _-_, _/_, _≤_, _<_}
 use native.Mathlib.Omega.{arith}
-use borrow.Author.Tests.{le-ltb, lt-leb}
-use lib.Dec.{eqb}
+use borrow.Author.Tests.{le-ltb, lt-ltb, lt-leb}
+use lib.Dec.{eqb, ltb}
 use lib.ListN.{length, take, drop, length-append, length-drop, length-map}
-use lib.Seq.{sets-eq, take-append-seam, drop-drop, drop-length}
+use lib.Seq.{sets-eq, length-sets, take-append-seam, drop-append-seam, drop-drop, drop-length}
 use Rattle.drr.specs.Limits.{mostFlows}
 use Rattle.drr.specs.declared.State.{State}
 use Rattle.drr.specs.declared.Table.{Table}
@@ -19,11 +20,16 @@ use Rattle.drr.proofs.Facts.{of-sound}
 use Rattle.drr.proofs.Tables.{no-flows-ranged}
 use Rattle.drr.proofs.Calls.{fresh-state-sound, setup-keeps}
 use Rattle.runfile.specs.File.{headerAnswer, flowsIn, flowsReply}
-use Rattle.figures.specs.Answers.{askedAnswer, figureIs, valueOf, allFigures, figuresWithin}
-use Rattle.text.specs.Text.{refusalText, numbersText, numbersWithin, Put}
-use Rattle.text.proofs.Texts.{Left, left-all, Filled}
+use Rattle.figures.specs.Time.{waitTime}
+use Rattle.figures.specs.Answers.{askedAnswer, figureIs, valueOf, timeAnswer, allFigures, figuresWithin}
+use Rattle.text.specs.Text.{refusalText, numbersText, numbersWithin, timedText, timedWithin}
+use Rattle.text.specs.Text.{titlesText, titlesWithin, partedByte, parted, Put}
+use Rattle.text.proofs.Texts.{Left, left-all, left-next, left-end, Filled, filled}
 use Rattle.text.proofs.Lines.{to-end, numbers-most}
-use Rattle.answers.specs.Printed.{flowFigures, flowLines, figuresText, figuresRoom, flowRoom, mostSizes}
+use Rattle.text.proofs.Rows.{timed-most, titles-most}
+use Rattle.answers.specs.declared.Dress.{Dress}
+use Rattle.answers.specs.Printed.{flowFigures, flowLine, flowLines, rowsText, dressedText, figuresText}
+use Rattle.answers.specs.Printed.{rowRoom, flowsRoom, mostSizes}
 use Rattle.answers.proofs.Given.{refused-text, fine-text}
 
 figures-length : (T : Table) (sizes : List ℕ) (f : ℕ) → length (flowFigures T sizes f) ≡ 5 + length sizes
@@ -49,51 +55,73 @@ module _ (s : State) (ok : SoundState s) (f : ℕ) (below : f < s .table .n) whe
         let front : ℕ → ℕ → List ℕ → List ℕ = λ c w more. take 3 (flowFigures (s .table) sizes f) ++ c ∷ w ∷ more in
         wide ∙ (λ i. front (asked-fine (lag (s .table) f) i) (asked-fine (wait (s .table) f) i) (each-fine sizes i))
 
-    -- its text, in a buffer with room for 21 numbers
-    pub flow-text : (out list : List ℕ) (n room : ℕ) → Filled (figuresWithin s f sizes 21) out list n → flowRoom ≤ room →
-        numbersWithin (take n list) room ≡ numbersText (flowFigures (s .table) sizes f)
-    unfolding numbersWithin
-    flow-text out list n room p h =
+    -- it is what the list holds
+    taken : (out list : List ℕ) (n : ℕ) → Filled (figuresWithin s f sizes 21) out list n → take n list ≡ flowFigures (s .table) sizes f
+    taken out list n p =
         let w : List ℕ = figuresWithin s f sizes 21 in
-        let taken : take n list ≡ flowFigures (s .table) sizes f =
-        (λ i. take (p .0 i) (p .1 i)) ∙ take-append-seam w (drop (length w) out) ∙ line-is in
-        let fits : length (flowFigures (s .table) sizes f) ≤ room / 21 = omega (arith, figures-length (s .table) sizes f) in
-        rw (taken, le-ltb (room / 21) (length (flowFigures (s .table) sizes f)) fits)
+        (λ i. take (p .0 i) (p .1 i)) ∙ take-append-seam w (drop (length w) out) ∙ line-is
 
--- ---- the lines: 441 bytes for each are enough
-module _ (T : Table) (sizes : List ℕ) where
-  pub flow-most : length sizes ≤ mostSizes → (f : ℕ) → length (numbersText (flowFigures T sizes f)) ≤ flowRoom
-  flow-most few f = omega (arith, numbers-most (flowFigures T sizes f), figures-length T sizes f)
+    -- its text, in a buffer with room for a row, without a time and with one
+    module _ (out list : List ℕ) (n room : ℕ) (p : Filled (figuresWithin s f sizes 21) out list n) (h : rowRoom ≤ room) where
+      pub flow-text : (rate : ℕ) → rate ≤ 0 → numbersWithin (take n list) room ≡ flowLine (s .table) sizes rate f
+      unfolding numbersWithin
+      flow-text rate none =
+          let row : List ℕ = flowFigures (s .table) sizes f in
+          let fits : length row ≤ room / 21 = omega (arith, figures-length (s .table) sizes f) in
+          rw (taken out list n p, le-ltb (room / 21) (length row) fits, le-ltb 0 rate none)
 
-  lines-most : length sizes ≤ mostSizes → (f k : ℕ) → length (flowLines T sizes f k) ≤ flowRoom * k
+      pub timed-flow-text : (rate time : ℕ) → 0 < rate → time ≡ valueOf (timeAnswer s f rate) →
+          timedWithin (take n list) time room ≡ flowLine (s .table) sizes rate f
+      unfolding timedWithin
+      timed-flow-text rate time some is =
+          let row : List ℕ = flowFigures (s .table) sizes f in
+          let fits : length row + 1 ≤ room / 30 = omega (arith, figures-length (s .table) sizes f) in
+          rw (
+            taken out list n p,
+            is ∙ asked-fine (waitTime (s .table) f rate),
+            le-ltb (room / 30) (length row + 1) fits,
+            lt-ltb 0 rate some,
+          )
+
+-- ---- the rows: 660 bytes for each are enough
+module _ (T : Table) (sizes : List ℕ) (rate : ℕ) where
+  line-by : (f : ℕ) (t : Bool) → length sizes ≤ mostSizes →
+      length (cond t (timedText (flowFigures T sizes f) (waitTime T f rate)) (numbersText (flowFigures T sizes f))) ≤ rowRoom
+  line-by f true few = omega (arith, timed-most (flowFigures T sizes f) (waitTime T f rate), figures-length T sizes f)
+  line-by f false few = omega (arith, numbers-most (flowFigures T sizes f), figures-length T sizes f)
+
+  pub flow-most : length sizes ≤ mostSizes → (f : ℕ) → length (flowLine T sizes rate f) ≤ rowRoom
+  flow-most few f = line-by f (ltb 0 rate) few
+
+  pub lines-most : length sizes ≤ mostSizes → (f k : ℕ) → length (flowLines T sizes rate f k) ≤ rowRoom * k
   lines-most few f zero = omega arith
   lines-most few f (suc k) =
       omega (
         arith,
-        length-append (numbersText (flowFigures T sizes f)) (flowLines T sizes (f + 1) k),
+        length-append (flowLine T sizes rate f) (flowLines T sizes rate (f + 1) k),
         flow-most few f,
         lines-most few (f + 1) k,
       )
 
   -- what is left to print before the first of n flows, before another, and after the last
-  pub flows-first : (n : ℕ) (b : List ℕ) → length sizes ≤ mostSizes → n ≤ mostFlows → figuresRoom ≤ length b →
-      Left b 0 (flowLines T sizes 0 n) b 0 (flowLines T sizes 0 (n - 0))
+  pub flows-first : (n : ℕ) (b : List ℕ) → length sizes ≤ mostSizes → n ≤ mostFlows → flowsRoom ≤ length b →
+      Left b 0 (flowLines T sizes rate 0 n) b 0 (flowLines T sizes rate 0 (n - 0))
   flows-first n b few low room =
       let all : n ≡ n - 0 = omega arith in
-      subst (λ (k : ℕ). Left b 0 (flowLines T sizes 0 n) b 0 (flowLines T sizes 0 k)) all
-      (left-all b 0 (flowLines T sizes 0 n) (omega (arith, lines-most few 0 n)))
+      subst (λ (k : ℕ). Left b 0 (flowLines T sizes rate 0 n) b 0 (flowLines T sizes rate 0 k)) all
+      (left-all b 0 (flowLines T sizes rate 0 n) (omega (arith, lines-most few 0 n)))
 
   pub flows-next : (n f : ℕ) → f < n →
-      flowLines T sizes f (n - f) ≡ numbersText (flowFigures T sizes f) ++ flowLines T sizes (f + 1) (n - (f + 1))
+      flowLines T sizes rate f (n - f) ≡ flowLine T sizes rate f ++ flowLines T sizes rate (f + 1) (n - (f + 1))
   flows-next n f h =
       let j : ℕ = n - (f + 1) in
       let e : n - f ≡ suc j = omega arith in
-      ap (λ (k : ℕ). flowLines T sizes f k) e
+      ap (λ (k : ℕ). flowLines T sizes rate f k) e
 
-  pub flows-last : (n f : ℕ) → n ≤ f → flowLines T sizes f (n - f) ≡ []
+  pub flows-last : (n f : ℕ) → n ≤ f → flowLines T sizes rate f (n - f) ≡ []
   flows-last n f h =
       let e : n - f ≡ 0 = omega arith in
-      ap (λ (k : ℕ). flowLines T sizes f k) e
+      ap (λ (k : ℕ). flowLines T sizes rate f k) e
 
 -- ---- a text at the start of the part of a buffer that begins at `at` is put there
 pub part-put : (b : List ℕ) (at : ℕ) (u part : List ℕ) (size : ℕ) → at + length u ≤ length b →
@@ -110,6 +138,62 @@ part-put b at u part size fits p =
       ap (λ (k : ℕ). at + k) (p .0),
     )
 
+-- ---- titles and lines, one text behind the other at the start of a buffer
+filled-put : (u b b' : List ℕ) (r : ℕ) → length u ≤ length b → Filled u b b' r → Put b 0 u b' r
+filled-put u b b' r fits p =
+    let e : 0 + length u ≡ length u = omega arith in (
+      p .1 ∙ ap (λ (i : ℕ). u ++ drop i b) (sym e) ∙ sym (sets-eq u b 0 (omega arith)),
+      p .0 ∙ sym e,
+    )
+
+pub two-filled : (u v b b' part : List ℕ) (at size : ℕ) → length u + length v ≤ length b →
+    Filled u b b' at → Filled v (take (length b' - at) (drop at b')) part size →
+    Filled (u ++ v) b (take at b' ++ (part ++ drop (length b' - at) (drop at b'))) (at + size)
+two-filled u v b b' part at size fits p q =
+    let whole : length (u ++ v) ≡ length u + length v = length-append u v in
+    let first = filled-put u b b' at (omega arith) p in
+    let same : length b' ≡ length b = ap length (first .0) ∙ length-sets b 0 u in
+    let rest = left-next (left-all b 0 (u ++ v) (omega (arith, whole))) u v refl b' at first same in
+    let put = left-end rest v refl _ _ (part-put b' at v part size (omega (arith, p .0, same)) q) in
+    filled 0 0 (u ++ v) b _ _ (omega arith) (omega (arith, whole)) put
+
+-- .. and the whole with another byte in place of each space
+pub parted-filled : (p : ℕ) (u b b' part : List ℕ) (n : ℕ) → Filled u b b' n → part ≡ parted p (take n b') →
+    Filled (parted p u) b (part ++ drop n b') n
+parted-filled p u b b' part n f is =
+    let long : length (parted p u) ≡ length u = length-map u (partedByte p) in
+    let front : take n b' ≡ u = (λ i. take (f .0 i) (f .1 i)) ∙ take-append-seam u (drop (length u) b) in
+    let behind : drop n b' ≡ drop (length (parted p u)) b =
+    (λ i. drop (f .0 i) (f .1 i)) ∙ drop-append-seam u (drop (length u) b) ∙ ap (λ (i : ℕ). drop i b) (sym long) in
+    (f .0 ∙ sym long, (λ i. (is ∙ ap (parted p) front) i ++ behind i))
+
+-- the rows by whether they have titles, and room for the titles
+module _ (T : Table) (sizes : List ℕ) (dress : Dress) where
+  abbrev pub titlesOf : List ℕ
+  titlesOf = titlesText sizes (ltb 0 (dress .rate))
+
+  abbrev pub linesOf : List ℕ
+  linesOf = flowLines T sizes (dress .rate) 0 (T .n)
+
+  pub with-titles : dress .titled ≡ true → titlesOf ++ linesOf ≡ rowsText T sizes dress
+  with-titles e = ap (λ (t : Bool). cond t titlesOf [] ++ linesOf) (sym e)
+
+  pub without-titles : dress .titled ≡ false → linesOf ≡ rowsText T sizes dress
+  without-titles e = ap (λ (t : Bool). cond t titlesOf [] ++ linesOf) (sym e)
+
+  module _ (few : length sizes ≤ mostSizes) where
+    pub titles-fit : (room : ℕ) → rowRoom ≤ room → titlesWithin sizes (ltb 0 (dress .rate)) room ≡ titlesOf
+    unfolding titlesWithin
+    titles-fit room h =
+        let enough : length sizes + 6 ≤ room / 30 = omega arith in
+        rw (le-ltb (room / 30) (length sizes + 6) enough)
+
+    pub rows-most : T .n ≤ mostFlows → (length titlesOf ≤ rowRoom) × (length linesOf ≤ flowsRoom)
+    rows-most low = (
+      omega (arith, titles-most sizes (ltb 0 (dress .rate))),
+      omega (arith, lines-most T sizes (dress .rate) few 0 (T .n)),
+    )
+
 -- ---- what the reader of the flows gave
 module _ (b : List ℕ) where
   pub flows-sound : SoundState (flowsReply b .state)
@@ -118,14 +202,13 @@ module _ (b : List ℕ) where
       by-test (λ (r : Reply). SoundState (r .state)) (eqb (headerAnswer b .refusal) 0)
       (λ _. setup-keeps (flowsIn b)) (λ _. fresh-state-sound no-flows-ranged)
 
-  module _ (sizes : List ℕ) where
+  module _ (sizes : List ℕ) (dress : Dress) where
     pub figures-refusal : (why : Refusal) (place : ℕ) → refusedAt (numberOf why) place ≡ flowsReply b .answer →
-        refusalText (numberOf why) place ≡ figuresText b sizes
+        refusalText (numberOf why) place ≡ figuresText b sizes dress
     unfolding figuresText
     figures-refusal why place e = refused-text (flowsReply b .answer) why place _ e
 
     pub figures-lines : (s : State) → flowsReply b .answer .refusal ≡ 0 → s ≡ flowsReply b .state →
-        flowLines (s .table) sizes 0 (s .table .n) ≡ figuresText b sizes
+        dressedText (s .table) sizes dress ≡ figuresText b sizes dress
     unfolding figuresText
-    figures-lines s ok e =
-        ap (λ (z : State). flowLines (z .table) sizes 0 (z .table .n)) e ∙ fine-text (flowsReply b .answer) _ ok
+    figures-lines s ok e = ap (λ (z : State). dressedText (z .table) sizes dress) e ∙ fine-text (flowsReply b .answer) _ ok

@@ -11,6 +11,7 @@ use Rattle.drr.proofs.Papers.{number-some}
 use Rattle.text.specs.Text.{refusalText, refusalWithin, listingText, listingWithin, overlaid}
 use Rattle.text.proofs.Texts.{Filled, counted}
 use Rattle.answers.specs.Printed.{answerText, runText, runTextWithin, figuresText, figuresTextWithin}
+use Rattle.answers.specs.declared.Dress.{Dress}
 use Rattle.answers.specs.Printed.{runRoom, figuresRoom, mostSizes}
 
 -- the text W at the start of the buffer b gives b', and r is how many bytes it has
@@ -57,15 +58,15 @@ unfolding listingWithin
 listing-fits list room h = rw (le-ltb (room / 18) (length list) h)
 
 -- ---- .. for the figures' text
-module _ (b sizes : List ℕ) (room : ℕ) where
-  pub figures-short : room < figuresRoom → [] ≡ figuresTextWithin b sizes room
+module _ (b sizes : List ℕ) (dress : Dress) (room : ℕ) where
+  pub figures-short : room < figuresRoom → [] ≡ figuresTextWithin b sizes dress room
   unfolding figuresTextWithin
   figures-short h = rw (lt-ltb room figuresRoom h)
 
-  pub figures-many : figuresRoom ≤ room → mostSizes < length sizes → [] ≡ figuresTextWithin b sizes room
+  pub figures-many : figuresRoom ≤ room → mostSizes < length sizes → [] ≡ figuresTextWithin b sizes dress room
   unfolding figuresTextWithin
   figures-many h m = rw (le-ltb room figuresRoom h, lt-ltb mostSizes (length sizes) m)
 
-  pub figures-fit : figuresRoom ≤ room → length sizes ≤ mostSizes → figuresText b sizes ≡ figuresTextWithin b sizes room
+  pub figures-fit : figuresRoom ≤ room → length sizes ≤ mostSizes → figuresText b sizes dress ≡ figuresTextWithin b sizes dress room
   unfolding figuresTextWithin
   figures-fit h m = rw (le-ltb room figuresRoom h, le-ltb mostSizes (length sizes) m)

@@ -1,6 +1,6 @@
--- What the two programs print, by the bytes of the file that they read.
+-- What `drrrun` and `drrfigures` print, by the bytes of the file that they read.
 use Prim.Native.Nat.{ℕ, zero, suc, _+_, _*_}
-use mathlib.Core.Bool.{cond}
+use mathlib.Core.Bool.{false, cond}
 use mathlib.Core.List.{List, [], _∷_, _++_, map}
 use lib.Dec.{ltb, eqb}
 use lib.ListN.{length, getD}
@@ -11,7 +11,9 @@ use Rattle.drr.specs.State.{quantumOf, maximumOf}
 use Rattle.drr.specs.Figures.{lag, owed, wait}
 use Rattle.runfile.specs.File.{fileAnswer, flowsReply}
 use Rattle.runfile.specs.Listing.{runListing}
-use Rattle.text.specs.Text.{listingText, refusalText, numbersText}
+use Rattle.figures.specs.Time.{waitTime}
+use Rattle.text.specs.Text.{listingText, refusalText, numbersText, timedText, titlesText, parted}
+use Rattle.answers.specs.declared.Dress.{Dress}
 
 -- "for a refused file one line `R number place`", else the text of what the file gave
 abbrev pub answerText : Answer → List ℕ → List ℕ
@@ -26,16 +28,32 @@ runText b = answerText (fileAnswer b) (listingText (runListing b))
 abbrev pub flowFigures : Table → List ℕ → ℕ → List ℕ
 flowFigures T sizes f = f ∷ quantumOf T f ∷ maximumOf T f ∷ lag T f ∷ wait T f ∷ map (owed T f) sizes
 
--- a line for each of k flows, from the flow f on
-abbrev pub flowLines : Table → List ℕ → ℕ → ℕ → List ℕ
-flowLines T sizes f zero = []
-flowLines T sizes f (suc k) = numbersText (flowFigures T sizes f) ++ flowLines T sizes (f + 1) k
+-- its line: these and, where the line's rate is given (in bits a second, and not 0), its wait in seconds
+abbrev pub flowLine : Table → List ℕ → ℕ → ℕ → List ℕ
+flowLine T sizes rate f =
+    cond (ltb 0 rate) (timedText (flowFigures T sizes f) (waitTime T f rate)) (numbersText (flowFigures T sizes f))
 
--- a line for each flow of the file's table; "later programs [keep] the `R` line"
-unfoldable pub figuresText : List ℕ → List ℕ → List ℕ
-figuresText b sizes =
-    let T = flowsReply b .state .table in
-    answerText (flowsReply b .answer) (flowLines T sizes 0 (T .n))
+-- a line for each of k flows, from the flow f on
+abbrev pub flowLines : Table → List ℕ → ℕ → ℕ → ℕ → List ℕ
+flowLines T sizes rate f zero = []
+flowLines T sizes rate f (suc k) = flowLine T sizes rate f ++ flowLines T sizes rate (f + 1) k
+
+-- the titles, if the dress has them, and a line for each flow
+abbrev pub rowsText : Table → List ℕ → Dress → List ℕ
+rowsText T sizes dress =
+    cond (dress .titled) (titlesText sizes (ltb 0 (dress .rate))) [] ++ flowLines T sizes (dress .rate) 0 (T .n)
+
+-- .. with the dress's byte in place of each space
+abbrev pub dressedText : Table → List ℕ → Dress → List ℕ
+dressedText T sizes dress = parted (dress .parting) (rowsText T sizes dress)
+
+-- the dress without any option: spaces, no titles, no time
+abbrev pub plain : Dress
+plain = record { parting = 32; titled = false; rate = 0 }
+
+-- a line for each flow of the file's table; "later programs [keep] the `R` line", in its form whatever the dress
+unfoldable pub figuresText : List ℕ → List ℕ → Dress → List ℕ
+figuresText b sizes dress = answerText (flowsReply b .answer) (dressedText (flowsReply b .state .table) sizes dress)
 
 -- a run's list: six numbers for each event and for line 3; and its text, 18 bytes for each number
 abbrev pub listRoom : ℕ
@@ -44,20 +62,24 @@ listRoom = 6 * (mostEvents + 1)
 abbrev pub runRoom : ℕ
 runRoom = 18 * listRoom
 
--- how many numbers of bytes may be asked; a flow's line, 21 bytes for each of its numbers; and the lines of sixteen flows
+-- how many numbers of bytes may be asked; a row, 30 bytes for each of its fields; the lines of sixteen flows; and titles before them
 abbrev pub mostSizes : ℕ
 mostSizes = 16
 
-abbrev pub flowRoom : ℕ
-flowRoom = 21 * (5 + mostSizes)
+abbrev pub rowRoom : ℕ
+rowRoom = 30 * (6 + mostSizes)
+
+abbrev pub flowsRoom : ℕ
+flowsRoom = mostFlows * rowRoom
 
 abbrev pub figuresRoom : ℕ
-figuresRoom = mostFlows * flowRoom
+figuresRoom = rowRoom + flowsRoom
 
 -- what is written into a buffer of this many bytes: nothing, where it has fewer than 110,700, which is room for any run's text
 unfoldable pub runTextWithin : List ℕ → ℕ → List ℕ
 runTextWithin b room = cond (ltb room runRoom) [] (runText b)
 
--- .. nothing, where it has fewer than 7,056, or more than 16 numbers of bytes are asked
-unfoldable pub figuresTextWithin : List ℕ → List ℕ → ℕ → List ℕ
-figuresTextWithin b sizes room = cond (ltb room figuresRoom) [] (cond (ltb mostSizes (length sizes)) [] (figuresText b sizes))
+-- .. nothing, where it has fewer than 11,220, or more than 16 numbers of bytes are asked
+unfoldable pub figuresTextWithin : List ℕ → List ℕ → Dress → ℕ → List ℕ
+figuresTextWithin b sizes dress room =
+    cond (ltb room figuresRoom) [] (cond (ltb mostSizes (length sizes)) [] (figuresText b sizes dress))

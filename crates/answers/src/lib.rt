@@ -9,18 +9,20 @@ ghost use lib.ListN.{length};
 ghost use Rattle.io.specs.Counts.{Counts};
 ghost use Rattle.drr.specs.Facts.{SoundState};
 ghost use Rattle.drr.specs.Answers.{numberOf};
-ghost use Rattle.text.specs.Text.{refusalWithin, numbersText, overlaid};
-ghost use Rattle.answers.specs.Printed.{mostSizes, flowRoom, figuresRoom, flowFigures, flowLines, runTextWithin, figuresTextWithin};
+ghost use Rattle.text.specs.Text.{refusalWithin, overlaid};
+ghost use Rattle.answers.specs.Printed.{mostSizes, rowRoom, flowsRoom, figuresRoom, flowLine, flowLines, rowsText, dressedText};
+ghost use Rattle.answers.specs.Printed.{runTextWithin, figuresTextWithin};
 
 // Bytes that are room for any run's text, and for the figures of any table.
 pub const RUN_ROOM: usize = 110700;
 
-pub const FIGURES_ROOM: usize = 7056;
+pub const FIGURES_ROOM: usize = 11220;
 // How many numbers of bytes may be asked.
 pub const MOST_SIZES: usize = 16;
 
-// The line of a refusal, which asks for 44 bytes.
-fn refusal_line(why: Refusal, place: usize, buf: &mut [u8]) -> usize
+// The line of a refusal at the start of a lent buffer, and how many bytes it has; nothing, and 0, where
+// the buffer has fewer than 44 bytes.
+pub fn refusal_line(why: Refusal, place: usize, buf: &mut [u8]) -> usize
     ensures { λ r. ⌜ (let text = refusalWithin (numberOf why) place (length (now (buf .entry))) in
         (r ≡ length text) × (now (buf .exit) ≡ overlaid text (now (buf .entry)))) ⌝ }
 {
@@ -48,21 +50,33 @@ pub fn run_text(file: &[u8], buf: &mut [u8]) -> usize
     text::listing_text(&list, buf)
 }
 
+// How the figures are dressed: the byte that parts the fields, whether titles come first, and the line's
+// rate in bits a second, for the wait in seconds; 0 where no time is asked.
+pub struct Dress {
+    pub parting: u8,
+    pub titled: bool,
+    pub rate: u64,
+}
+
 // The line of a flow of a sound state.
-fn put_flow(s: State, flow: usize, sizes: &[u32], buf: &mut [u8]) -> usize
-    requires { ⌜ SoundState s × (flow < s .table .n) × (length (now sizes) ≤ mostSizes) × (flowRoom ≤ length (now buf)) ⌝ }
-    ensures { λ r. ⌜ (let text = numbersText (flowFigures (s .table) (now (sizes .entry)) flow) in
+fn put_flow(s: State, flow: usize, sizes: &[u32], rate: u64, buf: &mut [u8]) -> usize
+    requires { ⌜ SoundState s × (flow < s .table .n) × (length (now sizes) ≤ mostSizes) × (rowRoom ≤ length (now buf)) ⌝ }
+    ensures { λ r. ⌜ (let text = flowLine (s .table) (now (sizes .entry)) rate flow in
         (r ≡ length text) × (now (buf .exit) ≡ overlaid text (now (buf .entry)))) ⌝ }
 {
     let mut list = [0u64; 21];
     let n = figures::all_figures(s, flow, sizes, &mut list);
+    if 0 < rate {
+        let time = figures::value_of(figures::wait_time(s, flow, rate));
+        return text::timed_text(&list[..n], time, buf);
+    }
     text::numbers_text(&list[..n], buf)
 }
 
 // A line for each flow of a sound state.
-fn put_flows(s: State, sizes: &[u32], buf: &mut [u8]) -> usize
-    requires { ⌜ SoundState s × (length (now sizes) ≤ mostSizes) × (figuresRoom ≤ length (now buf)) ⌝ }
-    ensures { λ r. ⌜ (let text = flowLines (s .table) (now (sizes .entry)) 0 (s .table .n) in
+fn put_flows(s: State, sizes: &[u32], rate: u64, buf: &mut [u8]) -> usize
+    requires { ⌜ SoundState s × (length (now sizes) ≤ mostSizes) × (flowsRoom ≤ length (now buf)) ⌝ }
+    ensures { λ r. ⌜ (let text = flowLines (s .table) (now (sizes .entry)) rate 0 (s .table .n) in
         (r ≡ length text) × (now (buf .exit) ≡ overlaid text (now (buf .entry)))) ⌝ }
 {
     let table = s.table;
@@ -70,20 +84,47 @@ fn put_flows(s: State, sizes: &[u32], buf: &mut [u8]) -> usize
     let mut at: usize = 0;
     let mut flow: usize = 0;
     while flow < n {
-        at += put_flow(s, flow, sizes, &mut buf[at..]);
+        at += put_flow(s, flow, sizes, rate, &mut buf[at..]);
         flow += 1;
     }
     at
 }
 
-// What `drrfigures` prints of a file's bytes and these numbers of bytes, at the start of a lent buffer,
-// and how many bytes it has; nothing, and 0, where the buffer has fewer than 7,056 bytes or the numbers
-// are more than 16.
-pub fn figures_text(file: &[u8], sizes: &[u32], buf: &mut [u8]) -> usize
+// The titles, if they are asked for, and a line for each flow.
+fn put_rows(s: State, sizes: &[u32], dress: Dress, buf: &mut [u8]) -> usize
+    requires { ⌜ SoundState s × (length (now sizes) ≤ mostSizes) × (figuresRoom ≤ length (now buf)) ⌝ }
+    ensures { λ r. ⌜ (let text = rowsText (s .table) (now (sizes .entry)) dress in
+        (r ≡ length text) × (now (buf .exit) ≡ overlaid text (now (buf .entry)))) ⌝ }
+{
+    let rate = dress.rate;
+    let titled = dress.titled;
+    if titled {
+        let at = text::titles_text(sizes, 0 < rate, buf);
+        return at + put_flows(s, sizes, rate, &mut buf[at..]);
+    }
+    put_flows(s, sizes, rate, buf)
+}
+
+// The same, dressed whole.
+fn put_dressed(s: State, sizes: &[u32], dress: Dress, buf: &mut [u8]) -> usize
+    requires { ⌜ SoundState s × (length (now sizes) ≤ mostSizes) × (figuresRoom ≤ length (now buf)) ⌝ }
+    ensures { λ r. ⌜ (let text = dressedText (s .table) (now (sizes .entry)) dress in
+        (r ≡ length text) × (now (buf .exit) ≡ overlaid text (now (buf .entry)))) ⌝ }
+{
+    let n = put_rows(s, sizes, dress, buf);
+    let parting = dress.parting;
+    text::part_by(parting, &mut buf[..n]);
+    n
+}
+
+// What `drrfigures` prints of a file's bytes and these numbers of bytes in a dress, at the start of a
+// lent buffer, and how many bytes it has; nothing, and 0, where the buffer has fewer than 11,220 bytes or
+// the numbers are more than 16.
+pub fn figures_text(file: &[u8], sizes: &[u32], dress: Dress, buf: &mut [u8]) -> usize
     ensures { λ r. ⌜ r ≡ length
-        (figuresTextWithin (now (file .entry)) (now (sizes .entry)) (length (now (buf .entry)))) ⌝ }
+        (figuresTextWithin (now (file .entry)) (now (sizes .entry)) dress (length (now (buf .entry)))) ⌝ }
     ensures { λ _. ⌜ now (buf .exit) ≡
-        overlaid (figuresTextWithin (now (file .entry)) (now (sizes .entry)) (length (now (buf .entry))))
+        overlaid (figuresTextWithin (now (file .entry)) (now (sizes .entry)) dress (length (now (buf .entry))))
         (now (buf .entry)) ⌝ }
     ensures { λ r. ⌜ Counts r (now (buf .exit)) ⌝ }
 {
@@ -99,5 +140,5 @@ pub fn figures_text(file: &[u8], sizes: &[u32], buf: &mut [u8]) -> usize
         return refusal_line(why, flow, buf);
     }
     let state = made.state;
-    put_flows(state, sizes, buf)
+    put_dressed(state, sizes, dress, buf)
 }

@@ -1,12 +1,13 @@
--- What is proved, on one page: the three demands and the document's table, each claim as a statement with the name of its proof. The
--- definitions stand in the specs of drr, figures, runfile and text. Beside this page: Meets.antt (each function meets the contract in
--- its source, for any numbers and any state), One.antt (no second answer meets it), Worked.antt and Printed.antt (computed instances).
-use mathlib.Core.Path.{_≡_}
+-- What is proved, on one page: the three demands, the document's table and the text form, each claim as a statement with the name of
+-- its proof. The definitions stand in the specs of drr, figures, runfile, text and textform. Beside this page: Meets.antt (each function
+-- meets the contract in its source, for any numbers and any state), One.antt (no second answer meets it), Worked.antt and Printed.antt
+-- (computed instances).
+use mathlib.Core.Path.{_≡_, ap, _∙_}
 use mathlib.Core.Bool.{true}
 use mathlib.Core.List.{List, [], _∷_, _++_}
 use mathlib.Core.Logic.{_↔_, _≢_}
 use Prim.Native.Nat.{ℕ, _+_, _*_, _-_, _/_, _^_, _≤_, _<_}
-use lib.ListN.{length}
+use lib.ListN.{length, take, replicate}
 use mir.Val.{Val}
 use denote.Laws.{Is}
 use Rattle.drr.specs.declared.Table.{Table}
@@ -15,21 +16,27 @@ use Rattle.drr.specs.declared.FlowRecord.{FlowRecord}
 use Rattle.drr.specs.State.{Line, quantumOf, maximumOf, lineIn, stateFrom, freshLine, freshState, emptyTable}
 use Rattle.drr.specs.Sound.{soundb}
 use Rattle.drr.specs.Facts.{Ranged, Shaped, Sound, SoundState, ShapedState, SameTable, SameMeaning}
-use Rattle.drr.specs.Answers.{Answer, idle, outcome, reply}
+use Rattle.drr.specs.Answers.{Answer, fine, idle, outcome, reply}
 use Rattle.drr.specs.Arrival.{arrivalReply}
 use Rattle.drr.specs.Pick.{Picks}
 use Rattle.drr.specs.Computed.{pickOf, pickReply}
-use Rattle.drr.specs.Setup.{setupReply}
+use Rattle.drr.specs.Setup.{tableFor, setupReply}
 use Rattle.drr.specs.Figures.{allQuanta, lag, Least, owed, wait}
 use Rattle.drr.specs.Floor.{Call, replyTo, afterCalls, lineAfter, bytesSent, flowSent, WaitsAtPicks, Floor}
 use Rattle.drr.specs.Paper.{Memory, Point, Reading, Serves, pointIn, memoryIn, startPoint, startMemory, answersTo}
 use Rattle.runfile.specs.declared.turns.Tally.{Tally}
-use Rattle.runfile.specs.File.{eventCount, eventsIn, fileAnswer, runAnswer}
+use Rattle.runfile.specs.File.{eventCount, flowsIn, eventsIn, fileAnswer, fileTable, runAnswer}
 use Rattle.runfile.specs.Run.{Act, free, outcomeOf, Timed, bookedIn, callIn, callsIn, tableIn, runCalls}
 use Rattle.runfile.specs.Listing.{tally, tallyAfter, endLine, linesOf, ends, ticksOf, lastOf, acceptedTo, sentTo, runListing, filled}
+use Rattle.figures.specs.Time.{waitTime}
 use Rattle.figures.specs.Vectors.{Every, marked}
 use Rattle.io.specs.Digits.{Fewest}
 use Rattle.text.specs.Text.{listingText, places}
+use Rattle.textform.specs.declared.Want.{Want}
+use Rattle.textform.specs.declared.Making.the-variants.{File, Fault}
+use Rattle.textform.specs.Made.{Draft, made, fault, bytesIn, madeBytes, makingIn, makingOf, mostMade, madeOf}
+use Rattle.textform.specs.Made as textform
+use Rattle.textform.specs.Shown.{textOf, shownText, Bytes, FlowsThenEvents}
 use Rattle.drr.proofs.State as state
 use Rattle.drr.proofs.Facts.{sound-is, of-sound}
 use Rattle.drr.proofs.Shape.{shaped}
@@ -41,11 +48,17 @@ use Rattle.drr.proofs.Calls.{fresh-state-sound, setup-keeps, setup-refused, cal
 use Rattle.drr.proofs.Figures as figures
 use Rattle.drr.proofs.Demand3 as demand3
 use Rattle.drr.proofs.Paper.{algorithm-runs, algorithm-runs-only, algorithm-starts}
+use Rattle.figures.proofs.Laws.{time-least}
 use Rattle.figures.proofs.Vectors.{p1-to-p12}
 use Rattle.runfile.proofs.Claims as run-claims
 use Rattle.runfile.proofs.Counts.{act-is-call}
 use Rattle.text.proofs.Texts.{places-fewest}
 use Rattle.answers.proofs.Shown as printed
+use Rattle.textform.proofs.Drafts.{made-good, made-reads, made-table, made-no-gaps, made-most, made-taken}
+use Rattle.textform.specs.Words.{faultText, faultWithin}
+use Rattle.textform.proofs.Faults.{fits}
+use Rattle.textform.proofs.Sizes as sizes
+use Rattle.textform.proofs.Round as round
 
 -- ==== DEMAND 1: any numbers, any state; a refusal hands back what it was given
 -- every State that the code can hold has its arrays' lengths, and with them the soundness test is true exactly where the facts hold
@@ -144,6 +157,10 @@ wait-is-least = figures.wait-least
 pub wait-is : (T : Table) (i : ℕ) → 0 < allQuanta T → 0 < quantumOf T i → wait T i ≡ lag T i / quantumOf T i + 1
 wait-is = figures.wait-formula
 
+-- in time, on a line of so many bits a second: the least hundred-millionths of a second that are at least wait × 8 / rate seconds
+pub wait-time-is-least : (T : Table) (i rate : ℕ) → 0 < rate → Least (λ t. wait T i * 8 * 100000000 ≤ rate * t) (waitTime T i rate)
+wait-time-is-least = time-least
+
 -- "With one flow C is 0 and owed(S) is S."
 pub one-flow : (T : Table) → T .n ≡ 1 → 0 < quantumOf T 0 → (lag T 0 ≡ 0) × ((S : ℕ) → owed T 0 S ≡ S)
 one-flow T one some = (figures.one-flow-lag T one some, figures.one-flow-owed T one some)
@@ -219,3 +236,50 @@ module _ (b : List ℕ) (ok : fileAnswer b .refusal ≡ 0) where
 -- and a number is printed in the fewest digits that hold it
 pub fewest-digits : (n : ℕ) → n < 10 ^ 20 → Fewest 10 1 n (places n)
 fewest-digits = places-fewest
+
+-- ==== THE TEXT FORM. `outcomeOf text` has the records that a text says, or its first fault; `madeBytes text` are the bytes of its file.
+-- `make_file` gives them: its answer is `makingOf`'s, and where that is a file of n bytes, the first n that it gives are those
+pub made-answered : (text : List ℕ) → madeOf text .answer ≡ makingOf text
+made-answered = sizes.made-answer
+
+pub made-given : (text : List ℕ) (n : ℕ) → makingOf text ≡ File n → take n (madeOf text .file) ≡ madeBytes text
+made-given text n e = ap (take n) (sizes.made-file text) ∙ made-taken text n e (replicate mostMade 0)
+
+-- a fault in line i makes no byte; 80 bytes, which drrmake has for it, are room for the line that tells it
+pub fault-makes-none : (text : List ℕ) (i : ℕ) (w : Want) → textform.outcomeOf text ≡ fault i w →
+    (makingOf text ≡ Fault i w) × (madeBytes text ≡ [])
+unfolding makingOf madeBytes
+fault-makes-none text i w e = (ap makingIn e, ap bytesIn e)
+
+pub fault-fits : (line : ℕ) (w : Want) → faultWithin line w 80 ≡ faultText line w
+fault-fits = fits
+
+-- a text without a fault, and its records d
+module _ (text : List ℕ) (d : Draft) (e : textform.outcomeOf text ≡ made d) where
+  -- "what is written is read back as the same table and events": the file has no refusal of a run file
+  pub made-read-back : (fileAnswer (madeBytes text) ≡ fine) × (flowsIn (madeBytes text) ≡ d .flows)
+      × (eventsIn (madeBytes text) ≡ d .events) × (fileTable (madeBytes text) ≡ tableFor (d .flows))
+  made-read-back = let r = made-reads text d e in (r .0, r .1, r .2, made-table text d e)
+
+  -- the file has no gaps, and at most 8,340 bytes
+  pub made-without-gaps : FlowsThenEvents (madeBytes text) × (length (madeBytes text) ≤ mostMade)
+  made-without-gaps = (made-no-gaps text d e, made-most text)
+
+  -- shown, it has a line for each record, which say the same records again
+  pub made-shown : (shownText (madeBytes text) ≡ textOf (d .flows) (d .events))
+      × (textform.outcomeOf (shownText (madeBytes text)) ≡ made d)
+  made-shown =
+      let g = made-good text d e in
+      let is = round.made-shown text d e in
+      (is, ap textform.outcomeOf is ∙ round.text-read d (g .0) (g .1))
+
+-- any bytes that are a run file
+module _ (b : List ℕ) (bytes : Bytes b) (ok : fileAnswer b .refusal ≡ 0) where
+  -- shown and made again, with gaps or without, it keeps its flows and events
+  pub shown-kept : (fileAnswer (madeBytes (shownText b)) ≡ fine) × (flowsIn (madeBytes (shownText b)) ≡ flowsIn b)
+      × (eventsIn (madeBytes (shownText b)) ≡ eventsIn b)
+  shown-kept = made-reads (shownText b) _ (round.shown-read b bytes ok)
+
+  -- "a run file without gaps, shown and made again, is the same bytes", where its flows stand before its events
+  pub shown-made-again : FlowsThenEvents b → madeBytes (shownText b) ≡ b
+  shown-made-again = round.shown-made b bytes ok

@@ -1,5 +1,6 @@
 -- Each public function meets its contract: its `statement` is that it returns from every call that meets what it asks, and then
--- meets the `ensures` in its source. Only `pick-in` and `book`, which a run calls on a line that it keeps sound, ask anything.
+-- meets the `ensures` in its source. Only `pick-in` and `book`, which a run calls on a line that it keeps sound, and `le2` and `le4`,
+-- which read inside a table that is tested, ask anything.
 use Rattle.drr.proofs.refusal_number.Statement as refusal-number
 use Rattle.drr.proofs.refusal_number.Met as refusal-number-met
 use Rattle.drr.proofs.common_of.Statement as common-of
@@ -40,14 +41,22 @@ use Rattle.figures.proofs.owed.Statement as owed
 use Rattle.figures.proofs.owed.Met as owed-met
 use Rattle.figures.proofs.wait.Statement as wait
 use Rattle.figures.proofs.wait.Met as wait-met
+use Rattle.figures.proofs.wait_time.Statement as wait-time
+use Rattle.figures.proofs.wait_time.Met as wait-time-met
 use Rattle.figures.proofs.lag.Statement as lag
 use Rattle.figures.proofs.lag.Met as lag-met
+use Rattle.figures.proofs.value_of.Statement as value-of
+use Rattle.figures.proofs.value_of.Met as value-of-met
 use Rattle.figures.proofs.all_figures.Statement as all-figures
 use Rattle.figures.proofs.all_figures.Met as all-figures-met
 use Rattle.runfile.proofs.reader.read.Statement as read
 use Rattle.runfile.proofs.reader.read.Met as read-met
 use Rattle.runfile.proofs.reader.read_flows.Statement as read-flows
 use Rattle.runfile.proofs.reader.read_flows.Met as read-flows-met
+use Rattle.runfile.proofs.fields.le2.Statement as le2
+use Rattle.runfile.proofs.fields.le2.Met as le2-met
+use Rattle.runfile.proofs.fields.le4.Statement as le4
+use Rattle.runfile.proofs.fields.le4.Met as le4-met
 use Rattle.runfile.proofs.run.Statement as run
 use Rattle.runfile.proofs.run.Met as run-met
 use Rattle.text.proofs.listing_text.Statement as listing-text
@@ -56,12 +65,30 @@ use Rattle.text.proofs.refusal_text.Statement as refusal-text
 use Rattle.text.proofs.refusal_text.Met as refusal-text-met
 use Rattle.text.proofs.numbers_text.Statement as numbers-text
 use Rattle.text.proofs.numbers_text.Met as numbers-text-met
+use Rattle.text.proofs.timed_text.Statement as timed-text
+use Rattle.text.proofs.timed_text.Met as timed-text-met
+use Rattle.text.proofs.titles_text.Statement as titles-text
+use Rattle.text.proofs.titles_text.Met as titles-text-met
+use Rattle.text.proofs.part_by.Statement as part-by
+use Rattle.text.proofs.part_by.Met as part-by-met
 use Rattle.text.proofs.word_of.Statement as word-of
 use Rattle.text.proofs.word_of.Met as word-of-met
+use Rattle.text.proofs.same.Statement as same
+use Rattle.text.proofs.same.Met as same-met
+use Rattle.text.proofs.around_text.Statement as around-text
+use Rattle.text.proofs.around_text.Met as around-text-met
+use Rattle.answers.proofs.refusal_line.Statement as refusal-line
+use Rattle.answers.proofs.refusal_line.Met as refusal-line-met
 use Rattle.answers.proofs.run_text.Statement as run-text
 use Rattle.answers.proofs.run_text.Met as run-text-met
 use Rattle.answers.proofs.figures_text.Statement as figures-text
 use Rattle.answers.proofs.figures_text.Met as figures-text-met
+use Rattle.textform.proofs.show.show_text.Statement as show-text
+use Rattle.textform.proofs.show.show_text.Met as show-text-met
+use Rattle.textform.proofs.make.make_file.Statement as make-file
+use Rattle.textform.proofs.make.make_file.Met as make-file-met
+use Rattle.textform.proofs.told.fault_text.Statement as fault-text
+use Rattle.textform.proofs.told.fault_text.Met as fault-text-met
 use Rattle.exports.proofs.wikulambag_setup.Statement as told-setup
 use Rattle.exports.proofs.wikulambag_setup.Met as told-setup-met
 use Rattle.exports.proofs.wikulambag_sound.Statement as told-sound
@@ -74,6 +101,8 @@ use Rattle.exports.proofs.wikulambag_owed.Statement as told-owed
 use Rattle.exports.proofs.wikulambag_owed.Met as told-owed-met
 use Rattle.exports.proofs.wikulambag_wait.Statement as told-wait
 use Rattle.exports.proofs.wikulambag_wait.Met as told-wait-met
+use Rattle.exports.proofs.wikulambag_lag.Statement as told-lag
+use Rattle.exports.proofs.wikulambag_lag.Met as told-lag-met
 use Rattle.exports.proofs.wikulambag_run.Statement as told-run
 use Rattle.exports.proofs.wikulambag_run.Met as told-run-met
 
@@ -141,8 +170,14 @@ owed-meets = owed-met.met
 pub wait-meets : {M : Type 1} → wait.statement M
 wait-meets = wait-met.met
 
+pub wait-time-meets : {M : Type 1} → wait-time.statement M
+wait-time-meets = wait-time-met.met
+
 pub lag-meets : {M : Type 1} → lag.statement M
 lag-meets = lag-met.met
+
+pub value-of-meets : {M : Type 1} → value-of.statement M
+value-of-meets = value-of-met.met
 
 pub all-figures-meets : {M : Type 1} → all-figures.statement M
 all-figures-meets = all-figures-met.met
@@ -157,6 +192,13 @@ read-flows-meets = read-flows-met.met
 pub run-meets : {M : Type 1} → run.statement M
 run-meets = run-met.met
 
+-- .. and numbers that lie inside the bytes
+pub le2-meets : {M : Type 1} → le2.statement M
+le2-meets = le2-met.met
+
+pub le4-meets : {M : Type 1} → le4.statement M
+le4-meets = le4-met.met
+
 -- ---- the text
 pub listing-text-meets : {M : Type 1} → listing-text.statement M
 listing-text-meets = listing-text-met.met
@@ -167,15 +209,43 @@ refusal-text-meets = refusal-text-met.met
 pub numbers-text-meets : {M : Type 1} → numbers-text.statement M
 numbers-text-meets = numbers-text-met.met
 
+pub timed-text-meets : {M : Type 1} → timed-text.statement M
+timed-text-meets = timed-text-met.met
+
+pub titles-text-meets : {M : Type 1} → titles-text.statement M
+titles-text-meets = titles-text-met.met
+
+pub part-by-meets : {M : Type 1} → part-by.statement M
+part-by-meets = part-by-met.met
+
 pub word-of-meets : {M : Type 1} → word-of.statement M
 word-of-meets = word-of-met.met
 
+pub same-meets : {M : Type 1} → same.statement M
+same-meets = same-met.met
+
+pub around-text-meets : {M : Type 1} → around-text.statement M
+around-text-meets = around-text-met.met
+
 -- ---- what the programs print: any bytes, and any lent buffer
+pub refusal-line-meets : {M : Type 1} → refusal-line.statement M
+refusal-line-meets = refusal-line-met.met
+
 pub run-text-meets : {M : Type 1} → run-text.statement M
 run-text-meets = run-text-met.met
 
 pub figures-text-meets : {M : Type 1} → figures-text.statement M
 figures-text-meets = figures-text-met.met
+
+pub show-text-meets : {M : Type 1} → show-text.statement M
+show-text-meets = show-text-met.met
+
+-- .. and what is made of a text: any bytes again
+pub make-file-meets : {M : Type 1} → make-file.statement M
+make-file-meets = make-file-met.met
+
+pub fault-text-meets : {M : Type 1} → fault-text.statement M
+fault-text-meets = fault-text-met.met
 
 -- ---- the functions for other languages
 pub told-setup-meets : {M : Type 1} → told-setup.statement M
@@ -195,6 +265,9 @@ told-owed-meets = told-owed-met.met
 
 pub told-wait-meets : {M : Type 1} → told-wait.statement M
 told-wait-meets = told-wait-met.met
+
+pub told-lag-meets : {M : Type 1} → told-lag.statement M
+told-lag-meets = told-lag-met.met
 
 pub told-run-meets : {M : Type 1} → told-run.statement M
 told-run-meets = told-run-met.met

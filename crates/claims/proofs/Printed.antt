@@ -1,6 +1,7 @@
 -- What `run_text` and `figures_text` give for document 01's run in full, by the definitions that they meet, as theorems about its
--- 92 bytes.
-use mathlib.Core.Path.{_≡_, refl}
+-- 92 bytes; and its text form, as theorems about the text.
+use mathlib.Core.Path.{_≡_, refl, sym, ap, _∙_}
+use mathlib.Core.Bool.{true}
 use mathlib.Core.List.{List, [], _∷_, _++_}
 use Prim.Native.Nat.{ℕ, _+_, _*_, _-_, _/_, _<_}
 use lib.Dec.{lit<}
@@ -16,9 +17,21 @@ use Rattle.drr.proofs.Tables.{made-ranged}
 use Rattle.runfile.specs.File.{flowsIn, headerAnswer, fileAnswer, flowsReply}
 use Rattle.runfile.specs.Run.{calls}
 use Rattle.runfile.specs.Listing.{listing}
-use Rattle.text.specs.Text.{places, decimal, kinds, lineText, listingText, numbersText}
+use Rattle.text.specs.Text.{places, decimal, kinds, lineText, listingText, numbersText, timeText, timedText, titlesText, parted}
+use Rattle.text.proofs.Rows.{parted-space}
+use Rattle.figures.specs.Time.{waitTime}
+use Rattle.figures.specs.Needs.{Known}
+use Rattle.figures.proofs.Laws.{time-from}
 use Rattle.figures.proofs.Vectors.{waits, owes}
-use Rattle.answers.specs.Printed.{runText, flowFigures, figuresText}
+use Rattle.answers.specs.declared.Dress.{Dress}
+use Rattle.answers.specs.Printed.{runText, answerText, flowFigures, flowLine, flowLines, plain, figuresText}
+use Rattle.text.specs.Spelt.{spelt}
+use Rattle.textform.specs.declared.Want.the-variants as want
+use Rattle.textform.specs.declared.Making.the-variants.{Fault}
+use Rattle.textform.specs.Grammar.{itemOf}
+use Rattle.textform.specs.Made.{outcomeOf, fileOf, madeBytes, makingOf}
+use Rattle.textform.specs.Shown.{textOf, shownText}
+use Rattle.textform.specs.Words.{faultText}
 
 -- ---- "A run in full": its 92 bytes
 -- "Tables at 20 and 44, length 92. Flows: 0 has Q 500, l 800; 1 has 300, 800; 2 has 400, 600."
@@ -40,21 +53,13 @@ worked =
 -- .. and the text that it names
 abbrev pub workedText : List ℕ
 workedText =
-    -- S 0 0 200 300 1
-    83 ∷ 32 ∷ 48 ∷ 32 ∷ 48 ∷ 32 ∷ 50 ∷ 48 ∷ 48 ∷ 32 ∷ 51 ∷ 48 ∷ 48 ∷ 32 ∷ 49 ∷ 10 ∷
-    -- D 100 2 700 3
-    68 ∷ 32 ∷ 49 ∷ 48 ∷ 48 ∷ 32 ∷ 50 ∷ 32 ∷ 55 ∷ 48 ∷ 48 ∷ 32 ∷ 51 ∷ 10 ∷
-    -- S 200 2 400 0 2
-    83 ∷ 32 ∷ 50 ∷ 48 ∷ 48 ∷ 32 ∷ 50 ∷ 32 ∷ 52 ∷ 48 ∷ 48 ∷ 32 ∷ 48 ∷ 32 ∷ 50 ∷ 10 ∷
-    -- S 600 0 750 50 1
-    83 ∷ 32 ∷ 54 ∷ 48 ∷ 48 ∷ 32 ∷ 48 ∷ 32 ∷ 55 ∷ 53 ∷ 48 ∷ 32 ∷ 53 ∷ 48 ∷ 32 ∷ 49 ∷ 10 ∷
-    -- S 1350 1 500 100 1
-    83 ∷ 32 ∷ 49 ∷ 51 ∷ 53 ∷ 48 ∷ 32 ∷ 49 ∷ 32 ∷ 53 ∷ 48 ∷ 48 ∷ 32 ∷ 49 ∷ 48 ∷ 48 ∷ 32 ∷ 49 ∷ 10 ∷
-    -- S 1850 1 250 150 1
-    83 ∷ 32 ∷ 49 ∷ 56 ∷ 53 ∷ 48 ∷ 32 ∷ 49 ∷ 32 ∷ 50 ∷ 53 ∷ 48 ∷ 32 ∷ 49 ∷ 53 ∷ 48 ∷ 32 ∷ 49 ∷ 10 ∷
-    -- E 2100 5 1
-    69 ∷ 32 ∷ 50 ∷ 49 ∷ 48 ∷ 48 ∷ 32 ∷ 53 ∷ 32 ∷ 49 ∷ 10 ∷
-    []
+    spelt "S 0 0 200 300 1\n" ++
+    spelt "D 100 2 700 3\n" ++
+    spelt "S 200 2 400 0 2\n" ++
+    spelt "S 600 0 750 50 1\n" ++
+    spelt "S 1350 1 500 100 1\n" ++
+    spelt "S 1850 1 250 150 1\n" ++
+    spelt "E 2100 5 1\n"
 
 pub worked-printed : runText worked ≡ workedText
 unfolding runText fileAnswer headerAnswer arrivalOf firstOf lookFor calls listing listingText lineText kinds decimal places
@@ -66,16 +71,9 @@ workedSizes = 10000 ∷ 100000 ∷ 1000000 ∷ []
 
 abbrev pub workedFigures : List ℕ
 workedFigures =
-    -- 0 500 800 1610000 3221 2825 40325 415325
-    48 ∷ 32 ∷ 53 ∷ 48 ∷ 48 ∷ 32 ∷ 56 ∷ 48 ∷ 48 ∷ 32 ∷ 49 ∷ 54 ∷ 49 ∷ 48 ∷ 48 ∷ 48 ∷ 48 ∷ 32 ∷ 51 ∷ 50 ∷ 50 ∷ 49 ∷ 32 ∷
-    50 ∷ 56 ∷ 50 ∷ 53 ∷ 32 ∷ 52 ∷ 48 ∷ 51 ∷ 50 ∷ 53 ∷ 32 ∷ 52 ∷ 49 ∷ 53 ∷ 51 ∷ 50 ∷ 53 ∷ 10 ∷
-    -- 1 300 800 1410000 4701 1325 23825 248825
-    49 ∷ 32 ∷ 51 ∷ 48 ∷ 48 ∷ 32 ∷ 56 ∷ 48 ∷ 48 ∷ 32 ∷ 49 ∷ 52 ∷ 49 ∷ 48 ∷ 48 ∷ 48 ∷ 48 ∷ 32 ∷ 52 ∷ 55 ∷ 48 ∷ 49 ∷ 32 ∷
-    49 ∷ 51 ∷ 50 ∷ 53 ∷ 32 ∷ 50 ∷ 51 ∷ 56 ∷ 50 ∷ 53 ∷ 32 ∷ 50 ∷ 52 ∷ 56 ∷ 56 ∷ 50 ∷ 53 ∷ 10 ∷
-    -- 2 400 600 1440000 3601 2134 32134 332134
-    50 ∷ 32 ∷ 52 ∷ 48 ∷ 48 ∷ 32 ∷ 54 ∷ 48 ∷ 48 ∷ 32 ∷ 49 ∷ 52 ∷ 52 ∷ 48 ∷ 48 ∷ 48 ∷ 48 ∷ 32 ∷ 51 ∷ 54 ∷ 48 ∷ 49 ∷ 32 ∷
-    50 ∷ 49 ∷ 51 ∷ 52 ∷ 32 ∷ 51 ∷ 50 ∷ 49 ∷ 51 ∷ 52 ∷ 32 ∷ 51 ∷ 51 ∷ 50 ∷ 49 ∷ 51 ∷ 52 ∷ 10 ∷
-    []
+    spelt "0 500 800 1610000 3221 2825 40325 415325\n" ++
+    spelt "1 300 800 1410000 4701 1325 23825 248825\n" ++
+    spelt "2 400 600 1440000 3601 2134 32134 332134\n"
 
 abbrev T : Table
 T = tableFor (flowsIn worked)
@@ -99,7 +97,74 @@ module _ (i : ℕ) (low : i < T .n) where
       let o : (S : ℕ) → owed T i S ≡ byOwed S = λ S. owes ranged i low S refl in
       λ j. i ∷ quantumOf T i ∷ maximumOf T i ∷ lag T i ∷ w j ∷ o 10000 j ∷ o 100000 j ∷ o 1000000 j ∷ []
 
-pub worked-figures : figuresText worked workedSizes ≡ workedFigures
+pub worked-figures : figuresText worked workedSizes plain ≡ workedFigures
 unfolding figuresText flowsReply headerAnswer setupAnswer setupTable decimal places
 worked-figures =
-    λ j. numbersText (line-is 0 (lit< tt) j) ++ (numbersText (line-is 1 (lit< tt) j) ++ (numbersText (line-is 2 (lit< tt) j) ++ []))
+    λ j. parted 32
+    (numbersText (line-is 0 (lit< tt) j) ++ (numbersText (line-is 1 (lit< tt) j) ++ (numbersText (line-is 2 (lit< tt) j) ++ [])))
+
+-- ---- without options the fields are parted by spaces: a line of numbers for each flow, and nothing else
+pub plain-line : (T : Table) (sizes : List ℕ) (f : ℕ) → flowLine T sizes 0 f ≡ numbersText (flowFigures T sizes f)
+plain-line T sizes f = refl
+
+pub plain-figures : (b sizes : List ℕ) → let T = flowsReply b .state .table in
+    figuresText b sizes plain ≡ answerText (flowsReply b .answer) (flowLines T sizes 0 0 (T .n))
+unfolding figuresText
+plain-figures b sizes =
+    let T = flowsReply b .state .table in
+    ap (answerText (flowsReply b .answer)) (parted-space (flowLines T sizes 0 0 (T .n)))
+
+-- ---- with titles, commas, and the time at 10 million bits a second: `drrfigures --header --csv --rate 10000000 10000 1000000`
+abbrev pub csv : Dress
+csv = record { parting = 44; titled = true; rate = 10000000 }
+
+abbrev pub workedTable : List ℕ
+workedTable =
+    spelt "flow,quantum,maximum,C,wait,owed_10000,owed_1000000,wait_seconds\n" ++
+    spelt "0,500,800,1610000,3221,2825,415325,0.00257680\n" ++
+    spelt "1,300,800,1410000,4701,1325,248825,0.00376080\n" ++
+    spelt "2,400,600,1440000,3601,2134,332134,0.00288080\n"
+
+module _ (i : ℕ) (low : i < T .n) where
+  abbrev byTime : ℕ
+  byTime = (byWait i low * 8 * 100000000 - 1) / 10000000 + 1
+
+  timed-is : timedText (flowFigures T (10000 ∷ 1000000 ∷ []) i) (waitTime T i 10000000)
+      ≡ timedText (i ∷ quantumOf T i ∷ maximumOf T i ∷ lag T i ∷ byWait i low ∷ byOwed i low 10000 ∷ byOwed i low 1000000 ∷ []) byTime
+  timed-is =
+      let w : wait T i ≡ byWait i low = waits ranged i low refl in
+      let o : (S : ℕ) → owed T i S ≡ byOwed i low S = λ S. owes ranged i low S refl in
+      let known : Known T i = record { ranged = ranged; below = low } in
+      let t : waitTime T i 10000000 ≡ byTime =
+      sym (time-from known 10000000 (lit< tt)) ∙ ap (λ (x : ℕ). (x * 8 * 100000000 - 1) / 10000000 + 1) w in
+      λ j. timedText (i ∷ quantumOf T i ∷ maximumOf T i ∷ lag T i ∷ w j ∷ o 10000 j ∷ o 1000000 j ∷ []) (t j)
+
+pub worked-dressed : figuresText worked (10000 ∷ 1000000 ∷ []) csv ≡ workedTable
+unfolding figuresText flowsReply headerAnswer setupAnswer setupTable decimal places timeText
+worked-dressed =
+    λ j. parted 44
+    (titlesText (10000 ∷ 1000000 ∷ []) true
+    ++ (timed-is 0 (lit< tt) j ++ (timed-is 1 (lit< tt) j ++ (timed-is 2 (lit< tt) j ++ []))))
+
+-- ---- the same run in the text form: what `drrshow` prints of its bytes, and what `drrmake` makes them from
+abbrev pub workedRecords : List ℕ
+workedRecords =
+    spelt "flow 500 800\nflow 300 800\nflow 400 600\n" ++
+    spelt "event 0 0 200\nevent 0 0 750\nevent 0 1 500\nevent 0 2 400\nevent 100 2 700\nevent 900 1 250\n"
+
+pub worked-shown : shownText worked ≡ workedRecords
+unfolding shownText textOf fileAnswer headerAnswer setupAnswer decimal places
+worked-shown = refl
+
+pub worked-made : madeBytes workedRecords ≡ worked
+unfolding madeBytes outcomeOf itemOf fileOf
+worked-made = refl
+
+-- .. and a text with a fault in its second line: what `make_file` answers, and the line that `fault_text` gives of that
+abbrev pub faulty : List ℕ
+faulty = spelt "flow 500 800\nflow 300,5 800\n"
+
+pub faulty-told : (makingOf faulty ≡ Fault 2 want.Quantum) ×
+    (faultText 2 want.Quantum ≡ spelt "line 2: expected a quantum, 1 to 65535\n")
+unfolding makingOf outcomeOf itemOf decimal places
+faulty-told = (refl, refl)

@@ -1,123 +1,160 @@
 // What programs in other languages can call, by C's calling convention: a state crosses by value, laid
-// out as C lays it out, an answer as six numbers (specs/Told.antt), a lent slice as its address and its
-// length. Any numbers may stand in a state.
+// out as C lays it out, an answer as a struct with a name for each number (specs/Told.antt), a lent slice
+// as its address and its length. Any numbers may stand in a state, and its bool is 0 or 1.
 use drr::ArrivalAnswer;
 use drr::FlowList;
 use drr::PickAnswer;
-use drr::Refusal;
 use drr::State;
 use drr::Terms;
 use drr::Verdict;
 use figures::Figure;
 ghost use mathlib.Core.Path.{_≡_};
-ghost use mathlib.Core.List.{[], _∷_};
+ghost use mathlib.Core.List.{[]};
 ghost use lib.ListN.{length};
 ghost use Rattle.drr.specs.Sound.{soundState};
-ghost use Rattle.drr.specs.Answers.{numberOf, answer, verdictPaper, pickPaper, arrivalPaper};
+ghost use Rattle.drr.specs.Answers.{answer, verdictPaper, pickPaper, arrivalPaper, reply};
 ghost use Rattle.drr.specs.Setup.{setupReply, recordsIn};
 ghost use Rattle.drr.specs.Arrival.{arrivalReply};
 ghost use Rattle.drr.specs.Computed.{pickReply};
-ghost use Rattle.figures.specs.Answers.{figurePaper, owedAnswer, waitAnswer};
+ghost use Rattle.figures.specs.Answers.{figurePaper, owedAnswer, waitAnswer, lagAnswer};
 ghost use Rattle.runfile.specs.File.{runAnswer};
 ghost use Rattle.runfile.specs.Listing.{filled};
-ghost use Rattle.exports.specs.Told.{told, toldReply};
+ghost use Rattle.exports.specs.Told.{setupTold, arrivalTold, pickTold, figureTold, runTold};
 
-// An answer beside the state after the call.
+// In every answer `refusal` is document 01's number, 0 where nothing is refused; beside a refusal the other
+// numbers, place and state apart, are 0.
+
+// Setup: the flow at fault for 6 and 7, and the fresh state, or the empty table beside a refusal.
 #[repr(C)]
-pub struct Replied {
-    pub told: [u64; 6],
+pub struct SetupResult {
+    pub refusal: u32,
+    pub place: usize,
     pub state: State,
 }
 
-// An answer alone.
+// An arrival: the state after it.
 #[repr(C)]
-pub struct Answered {
-    pub told: [u64; 6],
+pub struct ArrivalResult {
+    pub refusal: u32,
+    pub state: State,
 }
 
-// The refusal number and the number of the record at fault, as in the line `R number place`; zeros
-// where nothing is refused.
+// A pick: whether a packet was sent, its flow and length, the flow's deficit after it, the visits opened in
+// this pick, and the state after it. Idle is an answer that is neither refused nor sent.
 #[repr(C)]
-pub struct Fault {
+pub struct PickResult {
+    pub refusal: u32,
+    pub sent: bool,
+    pub flow: usize,
+    pub length: u32,
+    pub deficit: u32,
+    pub visits: u32,
+    pub state: State,
+}
+
+// A figure of a flow.
+#[repr(C)]
+pub struct FigureResult {
+    pub refusal: u32,
+    pub value: u64,
+}
+
+// A run: the number of the record at fault, as in the line `R number place`.
+#[repr(C)]
+pub struct RunResult {
     pub refusal: u32,
     pub place: usize,
 }
 
-// A refusal of an answer that has this many other numbers.
-fn refused_told(why: Refusal, numbers: u64) -> [u64; 6]
-    ensures { λ r. ⌜ r ≡ numberOf why ∷ numbers ∷ 0 ∷ 0 ∷ 0 ∷ 0 ∷ [] ⌝ }
-{
-    let number = drr::refusal_number(why);
-    [number as u64, numbers, 0, 0, 0, 0]
-}
-
-fn pick_told(a: PickAnswer) -> [u64; 6]
-    ensures { λ r. ⌜ r ≡ told (pickPaper a) ⌝ }
-{
-    match a {
-        PickAnswer::Idle => [0, 0, 0, 0, 0, 0],
-        PickAnswer::Sent(flow, length, deficit, visits) => [
-            0,
-            4,
-            flow as u64,
-            length as u64,
-            deficit as u64,
-            visits as u64,
-        ],
-        PickAnswer::Refused(why) => refused_told(why, 4),
-    }
-}
-
-fn arrival_told(a: ArrivalAnswer) -> [u64; 6]
-    ensures { λ r. ⌜ r ≡ told (arrivalPaper a) ⌝ }
-{
-    match a {
-        ArrivalAnswer::Accepted => [0, 0, 0, 0, 0, 0],
-        ArrivalAnswer::Refused(why) => refused_told(why, 0),
-    }
-}
-
-fn figure_told(a: Figure) -> [u64; 6]
-    ensures { λ r. ⌜ r ≡ told (figurePaper a) ⌝ }
-{
-    match a {
-        Figure::Value(value) => [0, 1, value, 0, 0, 0],
-        Figure::Refused(why) => refused_told(why, 1),
-    }
-}
-
-fn fault_of(v: Verdict) -> Fault
-    ensures { λ r. ⌜ answer (r .refusal) (r .place ∷ []) ≡ verdictPaper v ⌝ }
+fn result_of(v: Verdict) -> RunResult
+    ensures { λ r. ⌜ r ≡ runTold (verdictPaper v) ⌝ }
 {
     match v {
-        Verdict::Fine => Fault {
+        Verdict::Fine => RunResult {
             refusal: 0,
             place: 0,
         },
         Verdict::Refused(why, place) => {
             let refusal = drr::refusal_number(why);
-            Fault { refusal, place }
+            RunResult { refusal, place }
         }
     }
 }
 
-fn verdict_told(v: Verdict) -> [u64; 6]
-    ensures { λ r. ⌜ r ≡ told (verdictPaper v) ⌝ }
+fn arrival_told(a: ArrivalAnswer, state: State) -> ArrivalResult
+    ensures { λ r. ⌜ r ≡ arrivalTold (reply (arrivalPaper a) state) ⌝ }
 {
-    let fault = fault_of(v);
-    [fault.refusal as u64, 1, fault.place as u64, 0, 0, 0]
+    match a {
+        ArrivalAnswer::Accepted => ArrivalResult { refusal: 0, state },
+        ArrivalAnswer::Refused(why) => {
+            let refusal = drr::refusal_number(why);
+            ArrivalResult { refusal, state }
+        }
+    }
+}
+
+// A pick that sends nothing, idle or refused.
+fn unsent(refusal: u32, state: State) -> PickResult
+    ensures { λ r. ⌜ r ≡ pickTold (reply (answer refusal []) state) ⌝ }
+{
+    PickResult {
+        refusal,
+        sent: false,
+        flow: 0,
+        length: 0,
+        deficit: 0,
+        visits: 0,
+        state,
+    }
+}
+
+fn pick_told(a: PickAnswer, state: State) -> PickResult
+    ensures { λ r. ⌜ r ≡ pickTold (reply (pickPaper a) state) ⌝ }
+{
+    match a {
+        PickAnswer::Idle => unsent(0, state),
+        PickAnswer::Sent(flow, length, deficit, visits) => PickResult {
+            refusal: 0,
+            sent: true,
+            flow,
+            length,
+            deficit,
+            visits,
+            state,
+        },
+        PickAnswer::Refused(why) => {
+            let refusal = drr::refusal_number(why);
+            unsent(refusal, state)
+        }
+    }
+}
+
+fn figure_told(a: Figure) -> FigureResult
+    ensures { λ r. ⌜ r ≡ figureTold (figurePaper a) ⌝ }
+{
+    match a {
+        Figure::Value(value) => FigureResult { refusal: 0, value },
+        Figure::Refused(why) => {
+            let refusal = drr::refusal_number(why);
+            FigureResult { refusal, value: 0 }
+        }
+    }
 }
 
 // Setup of the first `count` records of the list, or of all seventeen.
 #[no_mangle]
-pub extern "C" fn wikulambag_setup(list: FlowList) -> Replied
-    ensures { λ r. ⌜ r ≡ toldReply (setupReply (recordsIn list)) ⌝ }
+pub extern "C" fn wikulambag_setup(list: FlowList) -> SetupResult
+    ensures { λ r. ⌜ r ≡ setupTold (setupReply (recordsIn list)) ⌝ }
 {
     let made = scheduler::flows::setup_of(list, Terms {});
     let answer = made.answer;
     let state = made.state;
-    let told = verdict_told(answer);
-    Replied { told, state }
+    let fault = result_of(answer);
+    SetupResult {
+        refusal: fault.refusal,
+        place: fault.place,
+        state,
+    }
 }
 
 // Whether the state is sound.
@@ -130,55 +167,59 @@ pub extern "C" fn wikulambag_sound(s: State) -> bool
 
 // A packet of `length` bytes arrives for `flow`.
 #[no_mangle]
-pub extern "C" fn wikulambag_arrival(s: State, flow: usize, length: u32) -> Replied
-    ensures { λ r. ⌜ r ≡ toldReply (arrivalReply s flow length) ⌝ }
+pub extern "C" fn wikulambag_arrival(s: State, flow: usize, length: u32) -> ArrivalResult
+    ensures { λ r. ⌜ r ≡ arrivalTold (arrivalReply s flow length) ⌝ }
 {
     let a = scheduler::arrival(s, flow, length);
     let answer = a.answer;
     let state = a.state;
-    let told = arrival_told(answer);
-    Replied { told, state }
+    arrival_told(answer, state)
 }
 
 // The next packet is picked.
 #[no_mangle]
-pub extern "C" fn wikulambag_pick(s: State) -> Replied
-    ensures { λ r. ⌜ r ≡ toldReply (pickReply s) ⌝ }
+pub extern "C" fn wikulambag_pick(s: State) -> PickResult
+    ensures { λ r. ⌜ r ≡ pickTold (pickReply s) ⌝ }
 {
     let p = scheduler::pick(s);
     let answer = p.answer;
     let state = p.state;
-    let told = pick_told(answer);
-    Replied { told, state }
+    pick_told(answer, state)
 }
 
 // What the flow is owed of this many bytes.
 #[no_mangle]
-pub extern "C" fn wikulambag_owed(s: State, flow: usize, bytes: u32) -> Answered
-    ensures { λ r. ⌜ r .told ≡ told (owedAnswer s flow bytes) ⌝ }
+pub extern "C" fn wikulambag_owed(s: State, flow: usize, bytes: u32) -> FigureResult
+    ensures { λ r. ⌜ r ≡ figureTold (owedAnswer s flow bytes) ⌝ }
 {
     let f = figures::owed(s, flow, bytes);
-    let told = figure_told(f);
-    Answered { told }
+    figure_told(f)
 }
 
 // The least number of bytes of which the flow is owed one.
 #[no_mangle]
-pub extern "C" fn wikulambag_wait(s: State, flow: usize) -> Answered
-    ensures { λ r. ⌜ r .told ≡ told (waitAnswer s flow) ⌝ }
+pub extern "C" fn wikulambag_wait(s: State, flow: usize) -> FigureResult
+    ensures { λ r. ⌜ r ≡ figureTold (waitAnswer s flow) ⌝ }
 {
     let f = figures::wait(s, flow);
-    let told = figure_told(f);
-    Answered { told }
+    figure_told(f)
+}
+
+// C of the flow.
+#[no_mangle]
+pub extern "C" fn wikulambag_lag(s: State, flow: usize) -> FigureResult
+    ensures { λ r. ⌜ r ≡ figureTold (lagAnswer s flow) ⌝ }
+{
+    let f = figures::lag(s, flow);
+    figure_told(f)
 }
 
 // Runs the file; its listing stands at the start of the lent list, or the refusal is told.
 #[no_mangle]
-pub extern "C" fn wikulambag_run(file: &[u8], out: &mut [u64]) -> Fault
-    ensures { λ r. ⌜ answer (r .refusal) (r .place ∷ [])
-        ≡ runAnswer (now (file .entry)) (length (now (out .entry))) ⌝ }
+pub extern "C" fn wikulambag_run(file: &[u8], out: &mut [u64]) -> RunResult
+    ensures { λ r. ⌜ r ≡ runTold (runAnswer (now (file .entry)) (length (now (out .entry)))) ⌝ }
     ensures { λ _. ⌜ now (out .exit) ≡ filled (now (file .entry)) (now (out .entry)) ⌝ }
 {
     let answer = runfile::run(file, out);
-    fault_of(answer)
+    result_of(answer)
 }

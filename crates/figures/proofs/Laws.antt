@@ -1,22 +1,31 @@
 -- The measures of a flow's figures and how far they go, the figures from its measures, and what a figure learns of its guard.
 use mathlib.Core.Path.{_≡_, sym, ap, _∙_, subst⁻¹}
-use Prim.Native.Nat.{ℕ, _+_, _*_, _-_, _/_, _<_}
-use native.Mathlib.Nat.{add-div-right}
+use Prim.Native.Nat.{ℕ, _+_, _*_, _-_, _/_, _≤_, _<_}
+use native.Mathlib.Nat.{add-div-right, mul-le-mul, mul-le-mul-left, mul-le-mul-right, div-lt-iff-lt-mul}
 use native.Mathlib.Omega.{arith}
+use borrow.Author.Tests.{eq-eqb, ne-eqb, le-leb, leb-true}
+use lib.Dec.{leb}
 use Rattle.drr.specs.declared.Refusal.{Refusal}
 use Rattle.drr.specs.declared.Table.{Table}
 use Rattle.drr.specs.declared.State.{State}
-use Rattle.drr.specs.Limits.{mostQuantum, mostMaximum}
+use Rattle.drr.specs.Limits.{mostQuantum, mostMaximum, mostQuanta, mostMaxima}
 use Rattle.drr.specs.State.{quantumOf, maximumOf}
 use Rattle.drr.specs.Answers.{Answer, numberOf}
-use Rattle.drr.specs.Figures.{allQuanta, allMaxima, lag, owed, wait}
+use Rattle.drr.specs.Figures.{allQuanta, allMaxima, lag, Least, owed, wait}
 use Rattle.drr.proofs.Sums.{total-at, total-most}
-use Rattle.drr.proofs.Figures.{quanta-some, owed-formula, wait-formula}
+use Rattle.drr.proofs.Figures.{quanta-some, owed-formula, wait-formula, least-one, least-of, least-from, one-beyond}
 use Rattle.figures.specs.declared.Guard.{Guard}
 use Rattle.figures.specs.declared.Guard.the-variants.{Passed, Refused}
 use Rattle.figures.specs.declared.Measures.{Measures}
 use Rattle.figures.specs.Answers.{figureRefused, guardPaper, askedAnswer}
-use Rattle.figures.specs.Needs.{Known, measuresOf, Limited, lagFrom}
+use Rattle.figures.specs.Needs.{Known, measuresOf, Limited, mostWait, lagFrom}
+use Rattle.figures.specs.Time.{slowest, waitTime}
+
+-- C is below Q × mostWait, with a for L - l and g for F - Q
+lag-low : (Q l a g : ℕ) → 1 ≤ Q → l ≤ mostMaximum → a ≤ mostMaxima → g ≤ mostQuanta → Q * a + g * (Q + l) < Q * mostWait
+lag-low Q l a g some lm am gm =
+    let wide : Q + l ≤ Q * (1 + mostMaximum) = omega arith in
+    omega (arith, mul-le-mul-left Q am, mul-le-mul gm wide)
 
 abbrev measures : ℕ → ℕ → ℕ → ℕ → Measures
 measures Q l F L = record { quantum = Q; maximum = l; quanta = F; maxima = L }
@@ -59,6 +68,37 @@ module _ {T : Table} {i : ℕ} (k : Known T i) where
         ∙ ap (λ (x : ℕ). x / quantumOf T i) e
         ∙ add-div-right (lag T i) pos
         ∙ sym (wait-formula T i some pos)
+
+-- ---- a wait in time
+pub time-least : (T : Table) (i rate : ℕ) → 0 < rate → Least (λ t. slowest T i ≤ rate * t) (waitTime T i rate)
+unfolding waitTime
+time-least T i rate pos =
+    let all = slowest T i in
+    let found = least-of (λ t. (leb-true all (rate * t), le-leb all (rate * t)))
+    (least-from (λ t. leb all (rate * t)) 0 all (le-leb all (rate * (0 + all)) (omega (arith, mul-le-mul-right all pos)))
+    (λ y h. omega arith)) in
+    rw (ne-eqb rate 0 (λ z. omega arith)) found
+
+module _ {T : Table} {i : ℕ} (k : Known T i) where
+  pub wait-most : (1 ≤ wait T i) × (wait T i ≤ mostWait)
+  wait-most =
+      let m = limited k in
+      let pos = m .quantum-least in
+      let low : lag T i < quantumOf T i * mostWait =
+      lag-low (quantumOf T i) (maximumOf T i) (allMaxima T - maximumOf T i) (allQuanta T - quantumOf T i) pos (m .maximum-most)
+      (omega (arith, m .maxima-most)) (omega (arith, m .quanta-most)) in
+      let fits : lag T i / quantumOf T i < mostWait = div-lt-iff-lt-mul pos .1 (omega (arith, low)) in
+      (omega (arith, wait-formula T i (some k) pos), omega (arith, wait-formula T i (some k) pos, fits))
+
+  pub time-from : (rate : ℕ) → 0 < rate → (slowest T i - 1) / rate + 1 ≡ waitTime T i rate
+  time-from rate pos =
+      let all = slowest T i in
+      let more : 1 ≤ all = omega (arith, wait-most .0) in
+      least-one (least-of (λ t. (λ h. omega arith, λ h. omega arith)) (one-beyond rate (all - 1) pos)) (time-least T i rate pos)
+
+  pub time-none : (rate : ℕ) → rate ≡ 0 → 0 ≡ waitTime T i rate
+  unfolding waitTime
+  time-none rate e = rw (eq-eqb rate 0 e)
 
 -- ---- a figure past its guard g
 module _ (s : State) (flow : ℕ) {g : Guard} (told : (figure : Answer) → guardPaper g figure ≡ askedAnswer s flow figure) where

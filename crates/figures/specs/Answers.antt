@@ -9,6 +9,7 @@ use Rattle.drr.specs.Sound.{soundState}
 use Rattle.drr.specs.Answers.{numberOf, Answer, answer}
 use Rattle.drr.specs.State.{quantumOf, maximumOf}
 use Rattle.drr.specs.Figures.{lag, owed, wait}
+use Rattle.figures.specs.Time.{waitTime}
 use Rattle.figures.specs.declared.Figure.{Figure}
 use Rattle.figures.specs.declared.Figure.the-variants as figures
 use Rattle.figures.specs.declared.Guard.{Guard}
@@ -45,6 +46,10 @@ waitAnswer s flow = askedAnswer s flow (figureIs (wait (s .table) flow))
 -- C, asked as a figure
 abbrev pub lagAnswer : State → ℕ → Answer
 lagAnswer s flow = askedAnswer s flow (figureIs (lag (s .table) flow))
+
+-- the wait in time, asked as a figure
+abbrev pub timeAnswer : State → ℕ → ℕ → Answer
+timeAnswer s flow rate = askedAnswer s flow (figureIs (waitTime (s .table) flow rate))
 
 -- ---- all figures of a flow as a list of numbers, for `drrfigures`
 -- the value of an answer

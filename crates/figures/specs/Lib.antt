@@ -1,3 +1,4 @@
+pub mod Time
 pub mod Answers
 pub mod Needs
 pub mod Vectors

@@ -27,6 +27,10 @@ pub record Limited (t : Measures) : Type 0 where
   pub quanta-most : t .quanta ≤ mostQuanta
   pub maxima-most : t .maxima ≤ mostMaxima
 
+-- how far a wait goes: C / Q is at most L + F × (1 + l)
+abbrev pub mostWait : ℕ
+mostWait = mostMaxima + mostQuanta * (1 + mostMaximum) + 1
+
 -- "C = Q × (L - l) + (F - Q) × (Q + l)"
 abbrev pub lagFrom : Measures → ℕ
 lagFrom t = t .quantum * (t .maxima - t .maximum) + (t .quanta - t .quantum) * (t .quantum + t .maximum)

@@ -1,4 +1,5 @@
-// Document 01's figures of a flow: what it is owed of S bytes, how long it waits for the first, and C.
+// Document 01's figures of a flow: what it is owed of S bytes, how long it waits for the first (in
+// bytes, and in time on a line of a given rate), and C.
 //
 // The definitions are the least numbers that the document names (drr, specs/Figures.antt). The code
 // takes the way round by division, and the laws of drr, proofs/Figures.antt, say that it is the same.
@@ -15,9 +16,13 @@ ghost use Rattle.drr.specs.Answers.{Answer};
 ghost use Rattle.drr.specs.Limits.{mostFlows};
 ghost use Rattle.drr.specs.Facts.{SoundState};
 ghost use Rattle.drr.specs.Figures.{total, lag as lagOf, owed as owedOf, wait as waitOf};
-ghost use Rattle.figures.specs.Answers.{figurePaper, guardPaper, askedAnswer, owedAnswer, waitAnswer, lagAnswer};
+ghost use Rattle.figures.specs.Answers.{figurePaper, guardPaper, askedAnswer, owedAnswer, waitAnswer, lagAnswer, timeAnswer};
 ghost use Rattle.figures.specs.Answers.{valueOf, allFigures, figuresWithin};
 ghost use Rattle.figures.specs.Needs.{Known, measuresOf, Limited, lagFrom};
+ghost use Rattle.figures.specs.Time.{waitTime};
+
+// A second, in hundred-millionths of one.
+const SECOND: u64 = 100000000;
 
 pub enum Figure {
     Value(u64),
@@ -129,6 +134,18 @@ fn wait_in(table: Table, flow: usize) -> u64
     rounded_up(lag + 1, t.quantum)
 }
 
+// The wait in hundred-millionths of a second on a line of so many bits a second, rounded up.
+fn time_in(table: Table, flow: usize, rate: u64) -> u64
+    requires { ⌜ Known table flow ⌝ }
+    ensures { λ r. ⌜ r ≡ waitTime table flow rate ⌝ }
+{
+    if rate == 0 {
+        return 0;
+    }
+    let bits = wait_in(table, flow) * 8;
+    (bits * SECOND - 1) / rate + 1
+}
+
 // Before any figure: 8 where the state is not sound, then 1 where there is no such flow.
 fn asked(s: State, flow: usize) -> Guard
     ensures { λ r. ⌜ ((figure : Answer) → guardPaper r figure ≡ askedAnswer s flow figure) ⌝ }
@@ -169,6 +186,18 @@ pub fn wait(s: State, flow: usize) -> Figure
     Figure::Value(wait_in(table, flow))
 }
 
+// The time until then, in hundred-millionths of a second, on a line of so many bits a second; 0 for a rate of 0.
+pub fn wait_time(s: State, flow: usize, rate: u64) -> Figure
+    ensures { λ r. ⌜ figurePaper r ≡ timeAnswer s flow rate ⌝ }
+{
+    let guard = asked(s, flow);
+    if let Guard::Refused(why) = guard {
+        return Figure::Refused(why);
+    }
+    let table = s.table;
+    Figure::Value(time_in(table, flow, rate))
+}
+
 // C of the flow.
 pub fn lag(s: State, flow: usize) -> Figure
     ensures { λ r. ⌜ figurePaper r ≡ lagAnswer s flow ⌝ }
@@ -182,7 +211,7 @@ pub fn lag(s: State, flow: usize) -> Figure
 }
 
 // The value of a figure, 0 beside a refusal.
-fn value_of(f: Figure) -> u64
+pub fn value_of(f: Figure) -> u64
     ensures { λ r. ⌜ r ≡ valueOf (figurePaper f) ⌝ }
 {
     match f {

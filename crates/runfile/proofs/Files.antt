@@ -31,15 +31,15 @@ peel true k x e = absurd (omega arith)
 peel false k x e = (refl, e)
 
 -- the six tests, each not met
-record Passed (b : List ℕ) : Type 0 where
-  size : (ltb (length b) headerSize || ltb mostBytes (length b)) ≡ false
-  stated : not (eqb (statedLength b) (length b)) ≡ false
-  zeroed : not (eqb (reserved b) 0) ≡ false
-  flows : (eqb (flowCount b) 0 || ltb mostFlows (flowCount b)) ≡ false
-  events : ltb mostEvents (eventCount b) ≡ false
-  tables : not (tablesb (flowCount b) (eventCount b) (flowOffset b) (eventOffset b) (length b)) ≡ false
+pub record Passed (b : List ℕ) : Type 0 where
+  pub size : (ltb (length b) headerSize || ltb mostBytes (length b)) ≡ false
+  pub stated : not (eqb (statedLength b) (length b)) ≡ false
+  pub zeroed : not (eqb (reserved b) 0) ≡ false
+  pub flows : (eqb (flowCount b) 0 || ltb mostFlows (flowCount b)) ≡ false
+  pub events : ltb mostEvents (eventCount b) ≡ false
+  pub tables : not (tablesb (flowCount b) (eventCount b) (flowOffset b) (eventOffset b) (length b)) ≡ false
 
-passed : (b : List ℕ) → headerAnswer b .refusal ≡ 0 → Passed b
+pub passed : (b : List ℕ) → headerAnswer b .refusal ≡ 0 → Passed b
 unfolding headerAnswer
 passed b e =
     let p1 = peel (ltb (length b) headerSize || ltb mostBytes (length b)) 8 _ e in
@@ -157,15 +157,18 @@ module _ (b : List ℕ) (e : fileAnswer b .refusal ≡ 0) where
       let h = first-fine (headerAnswer b) (firstRefused (flowsAnswer 0 (flowsIn b)) (ticksAnswer 0 0 (eventsIn b))) e in
       (h .0, first-fine (flowsAnswer 0 (flowsIn b)) (ticksAnswer 0 0 (eventsIn b)) (h .1))
 
+  pub file-header : headerAnswer b .refusal ≡ 0
+  file-header = parts .0
+
   pub file-laid : Laid b
-  file-laid = laid b (parts .0)
+  file-laid = laid b file-header
 
   pub file-flows : flowsAnswer 0 (flowsIn b) .refusal ≡ 0
   file-flows = parts .1 .0
 
   -- so setup accepts them, and what it makes is sound
   pub file-setup : setupAnswer (flowsIn b) .refusal ≡ 0
-  file-setup = ap (λ (a : Answer). a .refusal) (judged b (header-fine b (parts .0))) ∙ file-flows
+  file-setup = ap (λ (a : Answer). a .refusal) (judged b (header-fine b file-header)) ∙ file-flows
 
   pub file-ticks : ticksAnswer 0 0 (eventsIn b) .refusal ≡ 0
   file-ticks = parts .1 .1

@@ -1,5 +1,5 @@
 // The run file: its reader, the run of its events on one line, and the listing of that run.
-mod fields;
+pub mod fields;
 pub mod reader;
 mod turns;
 

@@ -3,17 +3,16 @@ use mathlib.Core.Path.{_≡_, refl, sym, ap, _∙_}
 use mathlib.Core.Bool.{Bool, true, false, cond}
 use mathlib.Core.List.{List, [], _∷_, _++_, append-nil}
 use Prim.Native.Nat.{ℕ, _+_, _*_, _-_, _≤_, _<_, max}
-use native.Mathlib.Numerals.{add-one}
 use native.Mathlib.Omega.{arith}
 use borrow.Author.Tests.{eq-eqb, ne-eqb, lt-ltb, le-ltb}
 use lib.Dec.{eqb, ltb}
 use lib.ListN.{length, getD, take, drop, length-append, length-take, length-drop, drop-of-length-le}
-use lib.Seq.{drop-cons, take-all}
+use lib.Seq.{take-all}
 use Rattle.text.specs.declared.Form.{Form}
 use Rattle.text.specs.declared.Form.the-variants.{Line, NoLine}
 use Rattle.text.specs.Text.{decimal, fieldText, fieldsText, numbersText, Put}
 use Rattle.text.specs.Text.{formText, fieldsIn, kinds, formIn, lineText, listingText}
-use Rattle.text.proofs.Texts.{decimal-most}
+use Rattle.text.proofs.Texts.{drop-first, decimal-most}
 
 -- a part of a list to its end, as code lends it
 pub to-end : (n : ℕ) (l : List ℕ) → take (length l - n) (drop n l) ≡ drop n l
@@ -89,7 +88,7 @@ no-form (entry ∷ more) kind P p =
 
 -- ---- field after field
 pub field-first : (l : List ℕ) (i : ℕ) → i < length l → fieldsText (drop i l) ≡ fieldText (getD l i 0) ++ fieldsText (drop (i + 1) l)
-field-first l i h = ap fieldsText (drop-cons l i 0 h) ∙ ap (λ (k : ℕ). fieldText (getD l i 0) ++ fieldsText (drop k l)) (sym (add-one i))
+field-first l i h = ap fieldsText (drop-first l i h)
 
 pub fields-end : (l : List ℕ) (i : ℕ) → length l ≤ i → fieldsText (drop i l) ≡ 10 ∷ []
 fields-end l i h = ap fieldsText (drop-of-length-le l h)

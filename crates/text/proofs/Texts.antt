@@ -7,12 +7,16 @@ use native.Mathlib.Nat.{add-zero, mod-lt, pow-succ'}
 use native.Mathlib.Numerals.{add-one}
 use native.Mathlib.Omega.{arith}
 use borrow.Author.Tests.{lt-ltb, le-ltb, eq-eqb, ne-eqb, eqb-true, eqb-false}
-use lib.ListN.{length, set, drop, length-append}
+use lib.ListN.{length, getD, set, drop, length-append}
 use lib.Dec.{eqb, ltb}
-use lib.Seq.{sets, sets-eq, set-comm, length-take-le}
+use lib.Seq.{sets, sets-eq, set-comm, drop-cons, length-take-le}
 use Rattle.io.specs.Counts.{Counts}
 use Rattle.io.specs.Digits.{digits, glyph, Fewest}
 use Rattle.text.specs.Text.{further, places, decimal, overlaid, Put}
+
+-- what is left of a list from i on, and what comes first of it
+pub drop-first : (l : List ℕ) (i : ℕ) → i < length l → drop i l ≡ getD l i 0 ∷ drop (i + 1) l
+drop-first l i h = drop-cons l i 0 h ∙ ap (λ (k : ℕ). getD l i 0 ∷ drop k l) (sym (add-one i))
 
 -- ---- the digits of a number
 pub places-first : (n : ℕ) → 1 + further 19 (n / 10) ≡ places n
@@ -39,7 +43,7 @@ places-last p k rest h g e =
     let e2 : further (20 - k) rest ≡ 0 = ap (λ (f : ℕ). further f rest) e1 in
     omega (arith, e2, e)
 
-digits-length : (k n : ℕ) → length (digits 10 k n) ≡ k
+pub digits-length : (k n : ℕ) → length (digits 10 k n) ≡ k
 digits-length zero n = refl
 digits-length (suc k) n = length-append (digits 10 k (n / 10)) (glyph (n % 10) ∷ []) ∙ omega (arith, digits-length k (n / 10))
 
@@ -59,12 +63,12 @@ pub decimal-most : (n : ℕ) → length (decimal n) ≤ 20
 unfolding places
 decimal-most n = omega (arith, decimal-length n, further-most 19 (n / 10))
 
-glyph-low : (d : ℕ) → d < 10 → glyph d ≡ 48 + d
+pub glyph-low : (d : ℕ) → d < 10 → glyph d ≡ 48 + d
 glyph-low d h = rw (lt-ltb d 10 h)
 
 -- ---- a text put into a buffer
 -- a text put behind another is the two put at once
-sets-two : (b u v : List ℕ) (at : ℕ) → sets (sets b at u) (at + length u) v ≡ sets b at (u ++ v)
+pub sets-two : (b u v : List ℕ) (at : ℕ) → sets (sets b at u) (at + length u) v ≡ sets b at (u ++ v)
 sets-two b [] v at = ap (λ (i : ℕ). sets b i v) (add-zero at)
 sets-two b (x ∷ u) v at =
     let e : at + suc (length u) ≡ suc at + length u = omega arith in

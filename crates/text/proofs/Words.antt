@@ -1,14 +1,15 @@
 -- A word read digit by digit.
 use mathlib.Core.Path.{_≡_, refl, sym, ap, _∙_}
-use mathlib.Core.List.{List, [], _∷_}
-use Prim.Native.Nat.{ℕ, _+_, _*_, _-_, _≤_, _<_}
+use mathlib.Core.List.{List, [], _∷_, _++_, append-nil, append-assoc}
+use Prim.Native.Nat.{ℕ, zero, suc, _+_, _*_, _-_, _/_, _%_, _^_, _≤_, _<_}
+use native.Mathlib.Nat.{mod-lt, pow-succ'}
 use native.Mathlib.Omega.{arith}
-use native.Mathlib.Numerals.{add-one}
 use borrow.Author.Tests.{lt-leb, le-leb}
 use lib.ListN.{length, getD, drop, drop-of-length-le}
-use lib.Seq.{drop-cons}
 use Rattle.text.specs.declared.Word.the-variants.{Number, NoNumber}
-use Rattle.text.specs.Text.{readOn, wordOf}
+use Rattle.io.specs.Digits.{digits, glyph}
+use Rattle.text.specs.Text.{mostNumber, places, decimal, readOn, wordOf}
+use Rattle.text.proofs.Texts.{glyph-low, decimal-length, places-fewest, drop-first}
 
 pub word-none : (w : List ℕ) → length w ≡ 0 → NoNumber ≡ wordOf w
 word-none [] e = refl
@@ -34,7 +35,7 @@ module _ {w : List ℕ} {n i : ℕ} (p : At w n i) where
   next = 10 * n + (d - 48)
 
   here : readOn n (d ∷ drop (i + 1) w) ≡ wordOf w
-  here = sym (ap (readOn n) (drop-cons w i 0 (p .inside) ∙ ap (λ (k : ℕ). d ∷ drop k w) (sym (add-one i)))) ∙ p .read
+  here = sym (ap (readOn n) (drop-first w i (p .inside))) ∙ p .read
 
   pub too-low : d < 48 → NoNumber ≡ wordOf w
   too-low l = rw (lt-leb 48 d l) at here
@@ -44,10 +45,33 @@ module _ {w : List ℕ} {n i : ℕ} (p : At w n i) where
     too-high l = rw (le-leb 48 d low, lt-leb d 57 l) at here
 
     module _ (high : d ≤ 57) (m : ℕ) (is : m ≡ next) where
-      pub too-much : 4294967295 < m → NoNumber ≡ wordOf w
-      too-much l = rw (le-leb 48 d low, le-leb d 57 high, lt-leb next 4294967295 (omega (arith, is))) at here
+      pub too-much : mostNumber < m → NoNumber ≡ wordOf w
+      too-much l = rw (le-leb 48 d low, le-leb d 57 high, lt-leb next mostNumber (omega (arith, is))) at here
 
-      pub one-digit : m ≤ 4294967295 → readOn m (drop (i + 1) w) ≡ wordOf w
+      pub one-digit : m ≤ mostNumber → readOn m (drop (i + 1) w) ≡ wordOf w
       one-digit l =
           ap (λ (k : ℕ). readOn k (drop (i + 1) w)) is
-          ∙ (rw (le-leb 48 d low, le-leb d 57 high, le-leb next 4294967295 (omega (arith, is))) at here)
+          ∙ (rw (le-leb 48 d low, le-leb d 57 high, le-leb next mostNumber (omega (arith, is))) at here)
+
+-- ---- a number that was printed is read back
+read-digit : (m d n : ℕ) (ds : List ℕ) → 48 ≤ d → d ≤ 57 → 10 * m + (d - 48) ≡ n → n ≤ mostNumber → readOn m (d ∷ ds) ≡ readOn n ds
+read-digit m d n ds low high is most =
+    let next : ℕ = 10 * m + (d - 48) in
+    rw (le-leb 48 d low, le-leb d 57 high, le-leb next mostNumber (omega (arith, is))) (ap (λ (k : ℕ). readOn k ds) is)
+
+read-digits : (k n : ℕ) (ds : List ℕ) → n < 10 ^ k → n ≤ mostNumber → readOn 0 (digits 10 k n ++ ds) ≡ readOn n ds
+read-digits zero n ds h most = let z : 0 ≡ n = omega arith in ap (λ (m : ℕ). readOn m ds) z
+read-digits (suc k) n ds h most =
+    let g : ℕ = glyph (n % 10) in
+    let is : g ≡ 48 + n % 10 = glyph-low (n % 10) (mod-lt n (omega arith)) in
+    ap (readOn 0) (append-assoc (digits 10 k (n / 10)) (g ∷ []) ds)
+    ∙ read-digits k (n / 10) (g ∷ ds) (omega (arith, pow-succ' 10 k)) (omega arith)
+    ∙ read-digit (n / 10) g n ds (omega arith) (omega arith) (omega arith) most
+
+pub decimal-read : (n : ℕ) → n ≤ mostNumber → wordOf (decimal n) ≡ Number n
+unfolding decimal
+decimal-read n most =
+    let some : length (decimal n) ≡ 0 → ⊥ = λ e. omega (arith, decimal-length n, places-fewest n (omega arith) .0) in
+    sym (word-start (decimal n) some)
+    ∙ ap (readOn 0) (sym (append-nil (decimal n)))
+    ∙ read-digits (places n) n [] (places-fewest n (omega arith) .1) most

@@ -1,12 +1,14 @@
--- "The run file and its listing": the listing as text. A text is the list of its bytes; 32 is the space, 10 ends a line.
+-- Text: "The run file and its listing" has the listing's; beside it rows of numbers, titles and times, a number between two texts, and a
+-- word read as a number. A text is the list of its bytes; 32 is the space, 10 ends a line.
 use mathlib.Core.Path.{_≡_}
-use mathlib.Core.Bool.{cond, _&&_}
-use mathlib.Core.List.{List, [], _∷_, _++_}
+use mathlib.Core.Bool.{Bool, true, false, cond, _&&_}
+use mathlib.Core.List.{List, [], _∷_, _++_, map}
 use Prim.Native.Nat.{ℕ, zero, suc, _+_, _-_, _*_, _/_}
 use lib.Dec.{eqb, ltb, leb}
 use lib.ListN.{length, take, drop}
 use lib.Seq.{sets}
 use Rattle.io.specs.Digits.{digits}
+use Rattle.text.specs.Spelt.{spelt}
 use Rattle.text.specs.declared.Form.{Form}
 use Rattle.text.specs.declared.Form.the-variants.{Line, NoLine}
 use Rattle.text.specs.declared.Word.{Word}
@@ -25,14 +27,22 @@ places n = suc (further 19 (n / 10))
 unfoldable pub decimal : ℕ → List ℕ
 decimal n = digits 10 (places n) n
 
--- "fields parted by one space": a field with the space before it
+-- "fields parted by one space": fields, each with the space before it, and the newline
+abbrev pub restText : List (List ℕ) → List ℕ
+restText [] = 10 ∷ []
+restText (t ∷ ts) = 32 ∷ t ++ restText ts
+
+-- .. and a row of them, with no space before the first; no text for no field
+abbrev pub rowText : List (List ℕ) → List ℕ
+rowText [] = []
+rowText (t ∷ ts) = t ++ restText ts
+
+-- a number so, with the space before it; numbers so, and the newline
 abbrev pub fieldText : ℕ → List ℕ
 fieldText n = 32 ∷ decimal n
 
--- fields so, and the newline
 abbrev pub fieldsText : List ℕ → List ℕ
-fieldsText [] = 10 ∷ []
-fieldsText (n ∷ ns) = fieldText n ++ fieldsText ns
+fieldsText ns = restText (map decimal ns)
 
 -- a line in its form: the letter, then the first so many of its fields; no text for no form
 abbrev pub formText : Form → List ℕ → List ℕ
@@ -77,11 +87,48 @@ listingText (k ∷ a ∷ b ∷ c ∷ d ∷ e ∷ more) = lineText k (a ∷ b ∷
 abbrev pub refusalText : ℕ → ℕ → List ℕ
 refusalText number place = formText (Line 82 2) (number ∷ place ∷ [])
 
--- numbers alone, as `drrfigures` prints them: parted by one space, a newline at the end; no text for no number
+-- ---- the rows of `drrfigures`
+-- numbers alone: parted by one space, a newline at the end; no text for no number
 abbrev pub numbersText : List ℕ → List ℕ
-numbersText [] = []
-numbersText (n ∷ ns) = decimal n ++ fieldsText ns
+numbersText ns = rowText (map decimal ns)
 
+-- a time in hundred-millionths of a second: the seconds, a point, and eight digits
+unfoldable pub timeText : ℕ → List ℕ
+timeText t = decimal (t / 100000000) ++ 46 ∷ digits 10 8 t
+
+-- numbers, and a time as the last field
+abbrev pub timedText : List ℕ → ℕ → List ℕ
+timedText ns t = rowText (map decimal ns ++ timeText t ∷ [])
+
+-- the title of what is owed of so many bytes
+abbrev pub owedTitle : ℕ → List ℕ
+owedTitle S = spelt "owed_" ++ decimal S
+
+-- .. and, where a time is the last field, its title
+abbrev pub lastTitle : Bool → List (List ℕ)
+lastTitle timed = cond timed (spelt "wait_seconds" ∷ []) []
+
+-- the titles behind the first five
+abbrev pub laterTitles : List ℕ → Bool → List (List ℕ)
+laterTitles sizes timed = map owedTitle sizes ++ lastTitle timed
+
+-- the titles of all columns: flow, quantum, maximum, C, wait, owed of each number of bytes, and of the time
+abbrev pub titlesText : List ℕ → Bool → List ℕ
+titlesText sizes timed =
+    rowText (spelt "flow" ∷ spelt "quantum" ∷ spelt "maximum" ∷ spelt "C" ∷ spelt "wait" ∷ laterTitles sizes timed)
+
+-- a text with another byte in place of each space
+abbrev pub partedByte : ℕ → ℕ → ℕ
+partedByte parting byte = cond (eqb byte 32) parting byte
+
+abbrev pub parted : ℕ → List ℕ → List ℕ
+parted parting text = map (partedByte parting) text
+
+-- a number between two texts
+abbrev pub around : List ℕ → ℕ → List ℕ → List ℕ
+around front n back = front ++ decimal n ++ back
+
+-- ---- in a lent buffer
 -- what is written into a buffer of this many bytes: nothing, where it has fewer than 18 for each number of the list,
 -- which is room for any listing
 unfoldable pub listingWithin : List ℕ → ℕ → List ℕ
@@ -95,6 +142,18 @@ refusalWithin number place room = cond (ltb room 44) [] (refusalText number plac
 unfoldable pub numbersWithin : List ℕ → ℕ → List ℕ
 numbersWithin list room = cond (ltb (room / 21) (length list)) [] (numbersText list)
 
+-- .. nothing, where it has fewer than 30 for each field, which is room for any numbers and a time
+unfoldable pub timedWithin : List ℕ → ℕ → ℕ → List ℕ
+timedWithin list t room = cond (ltb (room / 30) (length list + 1)) [] (timedText list t)
+
+-- .. or for any titles: 30 for each of five, of those of what is owed, and of the last
+unfoldable pub titlesWithin : List ℕ → Bool → ℕ → List ℕ
+titlesWithin sizes timed room = cond (ltb (room / 30) (length sizes + 6)) [] (titlesText sizes timed)
+
+-- .. nothing, where it has fewer than the two texts and 20, which is room for any number between them
+unfoldable pub aroundWithin : List ℕ → ℕ → List ℕ → ℕ → List ℕ
+aroundWithin front n back room = cond (ltb room (length front + 20 + length back)) [] (around front n back)
+
 -- a buffer with this text at its start, and what follows as it was
 abbrev pub overlaid : List ℕ → List ℕ → List ℕ
 overlaid text b = text ++ drop (length text) b
@@ -103,12 +162,22 @@ overlaid text b = text ++ drop (length text) b
 abbrev pub Put : List ℕ → ℕ → List ℕ → List ℕ → ℕ → Type 0
 Put b at v b' end = (b' ≡ sets b at v) × (end ≡ at + length v)
 
--- ---- a number as a word: decimal digits alone, at least one, and no more than 32 bits
+-- ---- a number as a word: decimal digits alone, at least one, and no more than eighteen nines
+abbrev pub mostNumber : ℕ
+mostNumber = 999999999999999999
+
 -- the digits from here on, where those before them gave n
 abbrev pub readOn : ℕ → List ℕ → Word
 readOn n [] = Number n
-readOn n (d ∷ ds) = cond (leb 48 d && leb d 57 && leb (10 * n + (d - 48)) 4294967295) (readOn (10 * n + (d - 48)) ds) NoNumber
+readOn n (d ∷ ds) = cond (leb 48 d && leb d 57 && leb (10 * n + (d - 48)) mostNumber) (readOn (10 * n + (d - 48)) ds) NoNumber
 
 abbrev pub wordOf : List ℕ → Word
 wordOf [] = NoNumber
 wordOf (d ∷ ds) = readOn 0 (d ∷ ds)
+
+-- whether two texts are the same bytes
+abbrev pub same : List ℕ → List ℕ → Bool
+same [] [] = true
+same [] (y ∷ ys) = false
+same (x ∷ xs) [] = false
+same (x ∷ xs) (y ∷ ys) = eqb x y && same xs ys

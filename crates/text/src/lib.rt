@@ -1,11 +1,14 @@
-// A listing, a refusal and numbers as text, into a lent buffer of bytes; a number read from a word.
+// A listing, a refusal and rows of numbers as text, into a lent buffer of bytes; a number read from a word.
 ghost use mathlib.Core.Path.{_≡_};
+ghost use mathlib.Core.List.{_∷_};
 ghost use Prim.Native.Nat.{_+_, _-_, _≤_};
 ghost use lib.ListN.{length};
 ghost use lib.Seq.{sets};
 ghost use Rattle.io.specs.Digits.{digits};
 ghost use Rattle.text.specs.Text.{decimal, fieldsText, formText, fieldsIn, kinds, formIn, listingText};
-ghost use Rattle.text.specs.Text.{listingWithin, refusalWithin, numbersWithin, overlaid, Put, wordOf};
+ghost use Rattle.text.specs.Text.{aroundWithin, listingWithin, refusalWithin, numbersWithin, overlaid, Put, wordOf, same as sameOf};
+ghost use Rattle.text.specs.Text.{restText, timeText, timedText, timedWithin, partedByte, parted};
+ghost use Rattle.text.specs.Text.{owedTitle, lastTitle, laterTitles, titlesWithin};
 ghost use Rattle.text.specs.Text.{places as Text·places};
 
 // How many digits a number has.
@@ -158,9 +161,163 @@ pub fn numbers_text(list: &[u64], buf: &mut [u8]) -> usize
     put_fields(&list[1..], buf, at)
 }
 
-// What a word says: a number of 32 bits, or none.
+// A time in hundred-millionths of a second: the seconds, a point, and eight digits.
+fn put_time(buf: &mut [u8], at: usize, time: u64) -> usize
+    requires { ⌜ at + length (timeText time) ≤ length (now buf) ⌝ }
+    ensures { λ r. ⌜ Put (now (buf .entry)) at (timeText time) (now (buf .exit)) r ⌝ }
+{
+    let point = put_number(buf, at, time / 100000000);
+    buf[point] = b'.';
+    spell(buf, point + 1, 8, time);
+    point + 9
+}
+
+// Numbers, each with the space behind it, then a time and the newline.
+fn put_timed(list: &[u64], time: u64, buf: &mut [u8]) -> usize
+    requires { ⌜ length (timedText (now list) time) ≤ length (now buf) ⌝ }
+    ensures { λ r. ⌜ Put (now (buf .entry)) 0 (timedText (now (list .entry)) time) (now (buf .exit)) r ⌝ }
+{
+    let mut at: usize = 0;
+    let mut i: usize = 0;
+    while i < list.len() {
+        let space = put_number(buf, at, list[i]);
+        buf[space] = b' ';
+        at = space + 1;
+        i += 1;
+    }
+    let end = put_time(buf, at, time);
+    buf[end] = b'\n';
+    end + 1
+}
+
+// The text of numbers and a time, in hundred-millionths of a second, as the last field, at the start of
+// a lent buffer, and how many bytes it has; nothing, and 0, where the buffer has fewer than 30 bytes for
+// each field.
+pub fn timed_text(list: &[u64], time: u64, buf: &mut [u8]) -> usize
+    ensures { λ r. ⌜ r ≡ length (timedWithin (now (list .entry)) time (length (now (buf .entry)))) ⌝ }
+    ensures { λ r. ⌜ now (buf .exit) ≡
+        overlaid (timedWithin (now (list .entry)) time (length (now (buf .entry)))) (now (buf .entry)) ⌝ }
+{
+    if buf.len() / 30 <= list.len() {
+        return 0;
+    }
+    put_timed(list, time, buf)
+}
+
+// Bytes as they are.
+fn put_bytes(text: &[u8], buf: &mut [u8], start: usize) -> usize
+    requires { ⌜ start + length (now text) ≤ length (now buf) ⌝ }
+    ensures { λ r. ⌜ Put (now (buf .entry)) start (now (text .entry)) (now (buf .exit)) r ⌝ }
+{
+    let mut at = start;
+    let mut i: usize = 0;
+    while i < text.len() {
+        buf[at] = text[i];
+        at += 1;
+        i += 1;
+    }
+    at
+}
+
+// The title of what is owed of so many bytes, with the space before it.
+fn put_owed_title(size: u32, buf: &mut [u8], at: usize) -> usize
+    requires { ⌜ at + length (32 ∷ owedTitle size) ≤ length (now buf) ⌝ }
+    ensures { λ r. ⌜ Put (now (buf .entry)) at (32 ∷ owedTitle size) (now (buf .exit)) r ⌝ }
+{
+    let after = put_bytes(b" owed_", buf, at);
+    put_number(buf, after, widths::u64_of_u32(size))
+}
+
+// The title of a time, if one is the last field, and the newline.
+fn put_last_title(timed: bool, buf: &mut [u8], at: usize) -> usize
+    requires { ⌜ at + length (restText (lastTitle timed)) ≤ length (now buf) ⌝ }
+    ensures { λ r. ⌜ Put (now (buf .entry)) at (restText (lastTitle timed)) (now (buf .exit)) r ⌝ }
+{
+    if timed {
+        return put_bytes(b" wait_seconds\n", buf, at);
+    }
+    put_bytes(b"\n", buf, at)
+}
+
+// The titles behind the first five, and the newline.
+fn put_later_titles(sizes: &[u32], timed: bool, buf: &mut [u8], start: usize) -> usize
+    requires { ⌜ start + length (restText (laterTitles (now sizes) timed)) ≤ length (now buf) ⌝ }
+    ensures { λ r. ⌜ Put (now (buf .entry)) start (restText (laterTitles (now (sizes .entry)) timed)) (now (buf .exit)) r ⌝ }
+{
+    let mut at = start;
+    let mut i: usize = 0;
+    while i < sizes.len() {
+        at = put_owed_title(sizes[i], buf, at);
+        i += 1;
+    }
+    put_last_title(timed, buf, at)
+}
+
+// The titles of the figures' columns, of what is owed of these numbers of bytes and of a time if one is
+// the last field, at the start of a lent buffer, and how many bytes they have; nothing, and 0, where the
+// buffer has fewer than 30 bytes for each of 6 and of the numbers.
+pub fn titles_text(sizes: &[u32], timed: bool, buf: &mut [u8]) -> usize
+    ensures { λ r. ⌜ r ≡ length (titlesWithin (now (sizes .entry)) timed (length (now (buf .entry)))) ⌝ }
+    ensures { λ r. ⌜ now (buf .exit) ≡
+        overlaid (titlesWithin (now (sizes .entry)) timed (length (now (buf .entry)))) (now (buf .entry)) ⌝ }
+{
+    if buf.len() / 30 < 6 {
+        return 0;
+    }
+    if buf.len() / 30 - 6 < sizes.len() {
+        return 0;
+    }
+    let at = put_bytes(b"flow quantum maximum C wait", buf, 0);
+    put_later_titles(sizes, timed, buf, at)
+}
+
+// The byte, or the parting one in place of a space.
+fn parted_byte(parting: u8, byte: u8) -> u8
+    ensures { λ r. ⌜ r ≡ partedByte parting byte ⌝ }
+{
+    if byte == b' ' { parting } else { byte }
+}
+
+// A lent text with another byte in place of each space.
+pub fn part_by(parting: u8, text: &mut [u8])
+    ensures { λ _. ⌜ now (text .exit) ≡ parted parting (now (text .entry)) ⌝ }
+{
+    let mut i: usize = 0;
+    while i < text.len() {
+        text[i] = parted_byte(parting, text[i]);
+        i += 1;
+    }
+}
+
+// A number between two texts, at the start of a lent buffer, and how many bytes that is; nothing, and 0,
+// where the buffer has fewer than the texts and 20.
+pub fn around_text(front: &[u8], n: u64, back: &[u8], buf: &mut [u8]) -> usize
+    ensures { λ r. ⌜ r ≡ length
+        (aroundWithin (now (front .entry)) n (now (back .entry)) (length (now (buf .entry)))) ⌝ }
+    ensures { λ r. ⌜ now (buf .exit) ≡
+        overlaid (aroundWithin (now (front .entry)) n (now (back .entry)) (length (now (buf .entry))))
+        (now (buf .entry)) ⌝ }
+{
+    if buf.len() < 20 {
+        return 0;
+    }
+    if buf.len() - 20 < front.len() {
+        return 0;
+    }
+    if buf.len() - 20 - front.len() < back.len() {
+        return 0;
+    }
+    let at = put_bytes(front, buf, 0);
+    let end = put_number(buf, at, n);
+    put_bytes(back, buf, end)
+}
+
+// The largest number that a word says: eighteen nines, so that one digit more still fits 64 bits.
+pub const MOST_NUMBER: u64 = 999999999999999999;
+
+// What a word says: a number, or none.
 pub enum Word {
-    Number(u32),
+    Number(u64),
     NoNumber,
 }
 
@@ -189,11 +346,28 @@ pub fn word_of(word: &[u8]) -> Word
             return Word::NoNumber;
         }
         let next = 10 * n + digit(byte);
-        if 4294967295 < next {
+        if MOST_NUMBER < next {
             return Word::NoNumber;
         }
         n = next;
         i += 1;
     }
-    Word::Number(n as u32)
+    Word::Number(n)
+}
+
+// Whether two words have the same bytes.
+pub fn same(a: &[u8], b: &[u8]) -> bool
+    ensures { λ r. ⌜ r ≡ sameOf (now (a .entry)) (now (b .entry)) ⌝ }
+{
+    if a.len() != b.len() {
+        return false;
+    }
+    let mut i: usize = 0;
+    while i < a.len() {
+        if a[i] != b[i] {
+            return false;
+        }
+        i += 1;
+    }
+    true
 }

@@ -6,20 +6,20 @@ use lib.ListN.{length, take, drop, length-drop}
 use lib.Seq.{length-sets}
 use Rattle.drr.specs.Limits.{mostFlows}
 use Rattle.drr.specs.declared.Table.{Table}
-use Rattle.text.specs.Text.{numbersText, Put}
+use Rattle.text.specs.Text.{Put}
 use Rattle.text.proofs.Texts.{Left, left-next, left-end, put-none, filled}
 use Rattle.text.proofs.Lines.{to-end}
-use Rattle.answers.specs.Printed.{flowFigures, flowLines, figuresRoom, flowRoom}
+use Rattle.answers.specs.Printed.{flowLine, flowLines, figuresRoom, rowRoom}
 use Rattle.answers.proofs.FlowLines.{flow-most, flows-first, flows-next, flows-last, part-put}
 use Rattle.answers.proofs.put_flows.Statement.{statement}
 use Rattle.answers.proofs.put_flows.Tie as tie
 
 abbrev Inv-loop : tie.InvT-loop
-Inv-loop s sizes buf₀ n at₀ flow₀ buf at flow =
-    (at ≤ flowRoom * flow) × Left buf₀ 0 (flowLines (s .table) sizes 0 n) buf at (flowLines (s .table) sizes flow (n - flow))
+Inv-loop s sizes rate buf₀ n at₀ flow₀ buf at flow =
+    (at ≤ rowRoom * flow) × Left buf₀ 0 (flowLines (s .table) sizes rate 0 n) buf at (flowLines (s .table) sizes rate flow (n - flow))
 
 abbrev μ-loop : tie.MeasureT-loop
-μ-loop s sizes buf₀ n at₀ flow₀ buf at flow = n - flow
+μ-loop s sizes rate buf₀ n at₀ flow₀ buf at flow = n - flow
 
 -- what the loop begins with
 module _ (z : tie.Start Inv-loop μ-loop) where
@@ -29,13 +29,16 @@ module _ (z : tie.Start Inv-loop μ-loop) where
   abbrev sizes : List ℕ
   sizes = z .args .sizes .now
 
+  abbrev rate : ℕ
+  rate = z .args .rate
+
   few-flows : T .n ≤ mostFlows
   few-flows = z .pre .0 .flows-few
 
 loop-holds : tie.Need-loop-holds Inv-loop μ-loop
 loop-holds c =
     let z = c .before .before .before in
-    (omega arith, flows-first (T z) (sizes z) (T z .n) (z .args .buf .now) (z .pre .1) (few-flows z) (z .pre .2))
+    (omega arith, flows-first (T z) (sizes z) (rate z) (T z .n) (z .args .buf .now) (z .pre .1) (few-flows z) (z .pre .2))
 
 -- before a flow's line: the buffer, where the line is put, and that there is room
 module _ (c : tie.In-loop Inv-loop μ-loop) where
@@ -49,15 +52,15 @@ module _ (c : tie.In-loop Inv-loop μ-loop) where
   at = c .before .loop .at
 
   abbrev line : List ℕ
-  line = numbersText (flowFigures (T z) (sizes z) (c .before .loop .flow))
+  line = flowLine (T z) (sizes z) (rate z) (c .before .loop .flow)
 
-  fits : at + flowRoom ≤ length b
+  fits : at + rowRoom ≤ length b
   fits = omega (arith, c .before .loop .inv .0, c .before .loop .inv .1 .size, c .loop-test .taken, few-flows z, z .pre .2)
 
-  short : length line ≤ flowRoom
-  short = flow-most (T z) (sizes z) (z .pre .1) (c .before .loop .flow)
+  short : length line ≤ rowRoom
+  short = flow-most (T z) (sizes z) (rate z) (z .pre .1) (c .before .loop .flow)
 
-  room : flowRoom ≤ length (take (length b - at) (drop at b))
+  room : rowRoom ≤ length (take (length b - at) (drop at b))
   room = omega (arith, fits, ap length (to-end at b), length-drop at b)
 
 -- after it
@@ -66,7 +69,7 @@ module _ (p : tie.After-put-flow Inv-loop μ-loop) where
   i = p .before .before
 
   abbrev after : List ℕ
-  after = take (at i) (b i) ++ (p .put-flow .last .1 .1 .1 .0 ++ drop (length (b i) - at i) (drop (at i) (b i)))
+  after = take (at i) (b i) ++ (p .put-flow .last .1 .1 .1 .1 .0 ++ drop (length (b i) - at i) (drop (at i) (b i)))
 
   put : Put (b i) (at i) (line i) after (at i + p .put-flow .result)
   put = part-put (b i) (at i) (line i) _ _ (omega (arith, fits i, short i)) (p .put-flow .ensures)
@@ -84,7 +87,7 @@ loop-again c =
     let l = c .before .before .before .before .before .loop in
     let q = put p in (
       omega (arith, l .inv .0, short k, p .put-flow .ensures .0),
-      left-next (l .inv .1) (line k) _ (flows-next (T (z k)) (sizes (z k)) (T (z k) .n) (l .flow) (k .loop-test .taken)) _ _ q
+      left-next (l .inv .1) (line k) _ (flows-next (T (z k)) (sizes (z k)) (rate (z k)) (T (z k) .n) (l .flow) (k .loop-test .taken)) _ _ q
           (ap length (q .0) ∙ length-sets (b k) (at k) (line k)),
     )
 
@@ -93,9 +96,9 @@ returns c =
     let z = c .before .before .before .before .before in
     let l = c .before .loop in
     let left = l .inv .1 in
-    let none = flows-last (T z) (sizes z) (T z .n) (l .flow) (c .loop-test .left) in
+    let none = flows-last (T z) (sizes z) (rate z) (T z .n) (l .flow) (c .loop-test .left) in
     let put = left-end left [] none _ _ (put-none _ _) in
-    filled 0 0 (flowLines (T z) (sizes z) 0 (T z .n)) (z .args .buf .now) _ _ (omega arith) (omega (arith, left .fits)) put
+    filled 0 0 (flowLines (T z) (sizes z) (rate z) 0 (T z .n)) (z .args .buf .now) _ _ (omega arith) (omega (arith, left .fits)) put
 
 pub put-flows-spec : {M : Type 1} → statement M
 put-flows-spec =

@@ -1,11 +1,11 @@
 use mathlib.Core.Path.{ap, _∙_}
 use borrow.Author.Needs.{needs}
-use Rattle.exports.specs.Told.{told}
+use Rattle.exports.specs.Told.{figureTold}
 use Rattle.exports.proofs.wikulambag_owed.Statement.{statement}
 use Rattle.exports.proofs.wikulambag_owed.Tie as tie
 
 returns : tie.Need-returns
-returns c = c .figure-told .ensures ∙ ap told (c .before .owed .ensures)
+returns c = c .figure-told .ensures ∙ ap figureTold (c .before .owed .ensures)
 
 pub wikulambag-owed-spec : {M : Type 1} → statement M
 wikulambag-owed-spec = tie.close (tie.spec (λ c κs. search needs) (λ c κs. search needs) returns)

@@ -4,13 +4,13 @@ use Prim.Native.Nat.{ℕ, _+_, _-_, _*_, _≤_}
 use native.Mathlib.Omega.{arith}
 use borrow.Author.Needs.{needs}
 use lib.ListN.{length, getD, drop}
-use Rattle.text.specs.Text.{readOn, wordOf}
+use Rattle.text.specs.Text.{mostNumber, readOn, wordOf}
 use Rattle.text.proofs.Words.{At, word-none, word-start, word-end, too-low, too-high, too-much, one-digit}
 use Rattle.text.proofs.word_of.Statement.{statement}
 use Rattle.text.proofs.word_of.Tie as tie
 
 abbrev Inv-loop : tie.InvT-loop
-Inv-loop word n₀ i₀ n i = (readOn n (drop i word) ≡ wordOf word) × (n ≤ 4294967295) × (i ≤ length word)
+Inv-loop word n₀ i₀ n i = (readOn n (drop i word) ≡ wordOf word) × (n ≤ mostNumber) × (i ≤ length word)
 
 abbrev μ-loop : tie.MeasureT-loop
 μ-loop word n₀ i₀ n i = length word - i
@@ -68,5 +68,4 @@ word-of-spec =
     (λ c. search needs)
     (λ c. search needs)
     loop-again
-    (λ c. search needs)
     returns-5)

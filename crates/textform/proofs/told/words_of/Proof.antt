@@ -1,0 +1,50 @@
+use borrow.Author.Needs.{needs}
+use mathlib.Core.Path.{refl}
+use Rattle.textform.specs.declared.Want.the-variants as want
+use Rattle.textform.proofs.Faults.{row}
+use Rattle.textform.proofs.told.words_of.Statement.{statement}
+use Rattle.textform.proofs.told.words_of.Tie as tie
+
+pub words-of-spec : {M : Type 1} → statement M
+words-of-spec =
+    tie.close
+    (tie.spec
+    (λ c. search needs)
+    (λ c κs. search needs)
+    (λ c. search needs)
+    (λ c κs. search needs)
+    (λ c. search needs)
+    (λ c κs. search needs)
+    (λ c. search needs)
+    (λ c κs. search needs)
+    (λ c. search needs)
+    (λ c κs. search needs)
+    (λ c. search needs)
+    (λ c κs. search needs)
+    (λ c. search needs)
+    (λ c κs. search needs)
+    (λ c. search needs)
+    (λ c κs. search needs)
+    (λ c. search needs)
+    (λ c κs. search needs)
+    (λ c. search needs)
+    (λ c κs. search needs)
+    (λ c. search needs)
+    (λ c κs. search needs)
+    (λ c. search needs)
+    (λ c κs. search needs)
+    (λ c. search needs)
+    (λ c κs. search needs)
+    (λ c. row want.Record 0 25 tt tt refl _ _ (c .before .enum-told .given .1) (c .from-to .ensures))
+    (λ c. row want.Quantum 25 58 tt tt refl _ _ (c .before .enum-told2 .given .1) (c .from-to2 .ensures))
+    (λ c. row want.Maximum 58 90 tt tt refl _ _ (c .before .enum-told3 .given .1) (c .from-to3 .ensures))
+    (λ c. row want.Tick 90 125 tt tt refl _ _ (c .before .enum-told4 .given .1) (c .from-to4 .ensures))
+    (λ c. row want.Flow 125 155 tt tt refl _ _ (c .before .enum-told5 .given .1) (c .from-to5 .ensures))
+    (λ c. row want.Length 155 187 tt tt refl _ _ (c .before .enum-told6 .given .1) (c .from-to6 .ensures))
+    (λ c. row want.End 187 218 tt tt refl _ _ (c .before .enum-told7 .given .1) (c .from-to7 .ensures))
+    (λ c. row want.FlowsFirst 218 253 tt tt refl _ _ (c .before .enum-told8 .given .1) (c .from-to8 .ensures))
+    (λ c. row want.EventsOnly 253 291 tt tt refl _ _ (c .before .enum-told9 .given .1) (c .from-to9 .ensures))
+    (λ c. row want.FewerFlows 291 319 tt tt refl _ _ (c .before .enum-told10 .given .1) (c .from-to10 .ensures))
+    (λ c. row want.FewerEvents 319 350 tt tt refl _ _ (c .before .enum-told11 .given .1) (c .from-to11 .ensures))
+    (λ c. row want.LaterTick 350 393 tt tt refl _ _ (c .before .enum-told12 .given .1) (c .from-to12 .ensures))
+    (λ c. row want.Shorter 393 435 tt tt refl _ _ (c .before .enum-told13 .given .1) (c .from-to13 .ensures)))

@@ -1,0 +1,5 @@
+pub mod Grammar
+pub mod Made
+pub mod Needs
+pub mod Shown
+pub mod Words

@@ -1,0 +1,40 @@
+//! Document 01's table, two packets of flow 0, a pick, and what each flow is owed of 1,000,000 bytes.
+//!
+//!     ./library
+//!     rustc --edition 2021 -L target/library -o calls examples/rust/calls.rs
+
+#[path = "../../include/wikulambag.rs"]
+mod wikulambag;
+
+use wikulambag::*;
+
+fn main() {
+    let made = wikulambag_setup(FlowList::of(&[(500, 800), (300, 800), (400, 600)]));
+    if made.refusal != 0 {
+        println!("setup refused by {}, flow {}", made.refusal, made.place);
+        return;
+    }
+    let mut state = made.state;
+
+    for length in [200, 750] {
+        let arrived = wikulambag_arrival(state, 0, length);
+        if arrived.refusal != 0 {
+            println!("arrival refused by {}", arrived.refusal);
+        }
+        state = arrived.state;
+    }
+
+    let picked = wikulambag_pick(state);
+    if picked.sent {
+        let (flow, length) = (picked.flow, picked.length);
+        let (deficit, visits) = (picked.deficit, picked.visits);
+        println!("sent: flow {flow}, {length} bytes, deficit {deficit}, visits {visits}");
+    } else {
+        println!("idle");
+    }
+
+    for flow in 0..picked.state.table.n {
+        let owed = wikulambag_owed(picked.state, flow, 1_000_000).value;
+        println!("flow {flow} is owed {owed}");
+    }
+}
