@@ -1,18 +1,18 @@
 -- The text of an answer, and what is promised of a text in a lent buffer.
 use mathlib.Core.Path.{_≡_, subst}
 use mathlib.Core.List.{List, []}
-use Prim.Native.Nat.{ℕ, _/_, _≤_, _<_}
+use Prim.Native.Nat.{ℕ, _+_, _*_, _/_, _≤_, _<_}
 use borrow.Author.Tests.{le-ltb, lt-ltb}
 use lib.ListN.{length}
 use Rattle.io.specs.Counts.{Counts}
 use Rattle.drr.specs.declared.Refusal.{Refusal}
 use Rattle.drr.specs.Answers.{Answer, numberOf, refusedAt}
 use Rattle.drr.proofs.Papers.{number-some}
-use Rattle.text.specs.Text.{refusalText, refusalWithin, listingText, listingWithin, overlaid}
+use Rattle.text.specs.Text.{refusalText, refusalWithin, listingText, listingWithin, besideText, besideWithin, overlaid}
 use Rattle.text.proofs.Texts.{Filled, counted}
-use Rattle.answers.specs.Printed.{answerText, runText, runTextWithin, figuresText, figuresTextWithin}
+use Rattle.answers.specs.Printed.{answerText, runText, runTextWithin, waitingText, waitingTextWithin, figuresText, figuresTextWithin}
 use Rattle.answers.specs.declared.Dress.{Dress}
-use Rattle.answers.specs.Printed.{runRoom, figuresRoom, mostSizes}
+use Rattle.answers.specs.Printed.{runRoom, waitingRoom, figuresRoom, mostSizes}
 
 -- the text W at the start of the buffer b gives b', and r is how many bytes it has
 abbrev pub Given : List ℕ → List ℕ → List ℕ → ℕ → Type 0
@@ -52,6 +52,19 @@ run-short b room h = rw (lt-ltb room runRoom h)
 pub run-fits : (b : List ℕ) (room : ℕ) → runRoom ≤ room → runText b ≡ runTextWithin b room
 unfolding runTextWithin
 run-fits b room h = rw (le-ltb room runRoom h)
+
+pub waiting-short : (b : List ℕ) (room : ℕ) → room < waitingRoom → [] ≡ waitingTextWithin b room
+unfolding waitingTextWithin
+waiting-short b room h = rw (lt-ltb room waitingRoom h)
+
+pub waiting-fits : (b : List ℕ) (room : ℕ) → waitingRoom ≤ room → waitingText b ≡ waitingTextWithin b room
+unfolding waitingTextWithin
+waiting-fits b room h = rw (le-ltb room waitingRoom h)
+
+pub beside-fits : (list beside : List ℕ) (room : ℕ) → 18 * length list + 21 * length beside ≤ room →
+    besideWithin list beside room ≡ besideText list beside
+unfolding besideWithin
+beside-fits list beside room h = rw (le-ltb room (18 * length list + 21 * length beside) h)
 
 pub listing-fits : (list : List ℕ) (room : ℕ) → length list ≤ room / 18 → listingWithin list room ≡ listingText list
 unfolding listingWithin

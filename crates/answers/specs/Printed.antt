@@ -10,9 +10,9 @@ use Rattle.drr.specs.Answers.{Answer}
 use Rattle.drr.specs.State.{quantumOf, maximumOf}
 use Rattle.drr.specs.Figures.{lag, owed, wait}
 use Rattle.runfile.specs.File.{fileAnswer, flowsReply}
-use Rattle.runfile.specs.Listing.{runListing}
+use Rattle.runfile.specs.Listing.{runListing, runWaiting}
 use Rattle.figures.specs.Time.{waitTime}
-use Rattle.text.specs.Text.{listingText, refusalText, numbersText, timedText, titlesText, parted}
+use Rattle.text.specs.Text.{listingText, besideText, refusalText, numbersText, timedText, titlesText, parted}
 use Rattle.answers.specs.declared.Dress.{Dress}
 
 -- "for a refused file one line `R number place`", else the text of what the file gave
@@ -23,6 +23,10 @@ answerText a text = cond (eqb (a .refusal) 0) text (refusalText (a .refusal) (ge
 -- line `R number place`."
 unfoldable pub runText : List ℕ → List ℕ
 runText b = answerText (fileAnswer b) (listingText (runListing b))
+
+-- `drrrun --waiting`: beside each line but the last, the bytes then waiting in its flow
+unfoldable pub waitingText : List ℕ → List ℕ
+waitingText b = answerText (fileAnswer b) (besideText (runListing b) (runWaiting b))
 
 -- `drrfigures`, of a flow: flow, quantum, maximum, C, wait, and owed of each number of bytes
 abbrev pub flowFigures : Table → List ℕ → ℕ → List ℕ
@@ -62,6 +66,10 @@ listRoom = 6 * (mostEvents + 1)
 abbrev pub runRoom : ℕ
 runRoom = 18 * listRoom
 
+-- .. with 21 for each number beside it, one an event
+abbrev pub waitingRoom : ℕ
+waitingRoom = runRoom + 21 * mostEvents
+
 -- how many numbers of bytes may be asked; a row, 30 bytes for each of its fields; the lines of sixteen flows; and titles before them
 abbrev pub mostSizes : ℕ
 mostSizes = 16
@@ -78,6 +86,10 @@ figuresRoom = rowRoom + flowsRoom
 -- what is written into a buffer of this many bytes: nothing, where it has fewer than 110,700, which is room for any run's text
 unfoldable pub runTextWithin : List ℕ → ℕ → List ℕ
 runTextWithin b room = cond (ltb room runRoom) [] (runText b)
+
+-- .. nothing, where it has fewer than 132,204, which is room for any run's text with the bytes waiting beside it
+unfoldable pub waitingTextWithin : List ℕ → ℕ → List ℕ
+waitingTextWithin b room = cond (ltb room waitingRoom) [] (waitingText b)
 
 -- .. nothing, where it has fewer than 11,220, or more than 16 numbers of bytes are asked
 unfoldable pub figuresTextWithin : List ℕ → List ℕ → Dress → ℕ → List ℕ

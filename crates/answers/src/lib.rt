@@ -11,10 +11,13 @@ ghost use Rattle.drr.specs.Facts.{SoundState};
 ghost use Rattle.drr.specs.Answers.{numberOf};
 ghost use Rattle.text.specs.Text.{refusalWithin, overlaid};
 ghost use Rattle.answers.specs.Printed.{mostSizes, rowRoom, flowsRoom, figuresRoom, flowLine, flowLines, rowsText, dressedText};
-ghost use Rattle.answers.specs.Printed.{runTextWithin, figuresTextWithin};
+ghost use Rattle.answers.specs.Printed.{runTextWithin, waitingTextWithin, figuresTextWithin};
 
-// Bytes that are room for any run's text, and for the figures of any table.
+// Bytes that are room for any run's text, for the same with the bytes waiting, and for the figures of any
+// table.
 pub const RUN_ROOM: usize = 110700;
+
+pub const WAITING_ROOM: usize = 132204;
 
 pub const FIGURES_ROOM: usize = 11220;
 // How many numbers of bytes may be asked.
@@ -48,6 +51,27 @@ pub fn run_text(file: &[u8], buf: &mut [u8]) -> usize
         return refusal_line(why, place, buf);
     }
     text::listing_text(&list, buf)
+}
+
+// What `drrrun --waiting` prints of a file's bytes, at the start of a lent buffer, and how many bytes it
+// has; nothing, and 0, where the buffer has fewer than 132,204 bytes.
+pub fn run_waiting_text(file: &[u8], buf: &mut [u8]) -> usize
+    ensures { λ r. ⌜ r ≡ length (waitingTextWithin (now (file .entry)) (length (now (buf .entry)))) ⌝ }
+    ensures { λ _. ⌜ now (buf .exit) ≡
+        overlaid (waitingTextWithin (now (file .entry)) (length (now (buf .entry)))) (now (buf .entry)) ⌝ }
+    ensures { λ r. ⌜ Counts r (now (buf .exit)) ⌝ }
+{
+    if buf.len() < WAITING_ROOM {
+        return 0;
+    }
+    // .. and for a number beside each line but the last
+    let mut lines = [0u64; 6150];
+    let mut beside = [0u64; 1024];
+    let answer = runfile::run_waiting(file, &mut lines, &mut beside);
+    if let Verdict::Refused(why, at) = answer {
+        return refusal_line(why, at, buf);
+    }
+    text::beside_text(&lines, &beside, buf)
 }
 
 // How the figures are dressed: the byte that parts the fields, whether titles come first, and the line's

@@ -1,19 +1,21 @@
--- What is proved, on one page: the three demands, the document's table and the text form, each claim as a statement with the name of
--- its proof. The definitions stand in the specs of drr, figures, runfile, text and textform. Beside this page: Meets.antt (each function
--- meets the contract in its source, for any numbers and any state), One.antt (no second answer meets it), Worked.antt and Printed.antt
--- (computed instances).
+-- What is proved, on one page: the three demands, the account, the document's table and the text form, each claim as a statement with
+-- the name of its proof. The definitions stand in the specs of drr, figures, runfile, text and textform. Beside this page: Meets.antt
+-- (each function meets the contract in its source, for any numbers and any state), One.antt (no second answer meets it), Worked.antt and
+-- Printed.antt (computed instances).
 use mathlib.Core.Path.{_≡_, ap, _∙_}
 use mathlib.Core.Bool.{true}
 use mathlib.Core.List.{List, [], _∷_, _++_}
 use mathlib.Core.Logic.{_↔_, _≢_}
 use Prim.Native.Nat.{ℕ, _+_, _*_, _-_, _/_, _^_, _≤_, _<_}
+use native.Mathlib.Omega.{arith}
 use lib.ListN.{length, take, replicate}
 use mir.Val.{Val}
 use denote.Laws.{Is}
 use Rattle.drr.specs.declared.Table.{Table}
 use Rattle.drr.specs.declared.State.{State}
 use Rattle.drr.specs.declared.FlowRecord.{FlowRecord}
-use Rattle.drr.specs.State.{Line, quantumOf, maximumOf, lineIn, stateFrom, freshLine, freshState, emptyTable}
+use Rattle.drr.specs.Limits.{mostFlows}
+use Rattle.drr.specs.State.{Line, quantumOf, maximumOf, sumOf, rowOf, bytesOf, lineIn, stateFrom, freshLine, freshState, emptyTable}
 use Rattle.drr.specs.Sound.{soundb}
 use Rattle.drr.specs.Facts.{Ranged, Shaped, Sound, SoundState, ShapedState, SameTable, SameMeaning}
 use Rattle.drr.specs.Answers.{Answer, fine, idle, outcome, reply}
@@ -22,16 +24,19 @@ use Rattle.drr.specs.Pick.{Picks}
 use Rattle.drr.specs.Computed.{pickOf, pickReply}
 use Rattle.drr.specs.Setup.{tableFor, setupReply}
 use Rattle.drr.specs.Figures.{allQuanta, lag, Least, owed, wait}
-use Rattle.drr.specs.Floor.{Call, replyTo, afterCalls, lineAfter, bytesSent, flowSent, WaitsAtPicks, Floor}
-use Rattle.drr.specs.Paper.{Memory, Point, Reading, Serves, pointIn, memoryIn, startPoint, startMemory, answersTo}
+use Rattle.drr.specs.Floor.{Call, replyTo, afterCalls, answersTo, lineAfter, bytesSent, flowSent, WaitsAtPicks, Floor}
+use Rattle.drr.specs.Paper.{Memory, Point, Reading, Serves, pointIn, memoryIn, startPoint, startMemory}
+use Rattle.drr.specs.Account.{justFlow, bytesAccepted, bytesGiven, bytesWaitingIn, Account, AccountOfAll, FreshAccount, FreshAccountOfAll}
 use Rattle.runfile.specs.declared.turns.Tally.{Tally}
 use Rattle.runfile.specs.File.{eventCount, flowsIn, eventsIn, fileAnswer, fileTable, runAnswer}
 use Rattle.runfile.specs.Run.{Act, free, outcomeOf, Timed, bookedIn, callIn, callsIn, tableIn, runCalls}
-use Rattle.runfile.specs.Listing.{tally, tallyAfter, endLine, linesOf, ends, ticksOf, lastOf, acceptedTo, sentTo, runListing, filled}
+use Rattle.runfile.specs.Listing.{tally, tallyAfter, endLine, linesOf, ends, ticksOf, lastOf, acceptedTo, sentTo}
+use Rattle.runfile.specs.Listing.{runListing, runWaiting, filled, filledLines, filledBeside}
+use Rattle.figures.specs.Answers.{figureIs, waitingAnswer}
 use Rattle.figures.specs.Time.{waitTime}
 use Rattle.figures.specs.Vectors.{Every, marked}
 use Rattle.io.specs.Digits.{Fewest}
-use Rattle.text.specs.Text.{listingText, places}
+use Rattle.text.specs.Text.{listingText, besideText, places}
 use Rattle.textform.specs.declared.Want.{Want}
 use Rattle.textform.specs.declared.Making.the-variants.{File, Fault}
 use Rattle.textform.specs.Made.{Draft, made, fault, bytesIn, madeBytes, makingIn, makingOf, mostMade, madeOf}
@@ -43,12 +48,15 @@ use Rattle.drr.proofs.Shape.{shaped}
 use Rattle.drr.proofs.Meaning.{one-table, one-state}
 use Rattle.drr.proofs.One.{pick-is, pick-only}
 use Rattle.drr.proofs.Tables.{no-flows-ranged}
+use Rattle.drr.proofs.Steps.{sum-most}
 use Rattle.drr.proofs.Keeps.{arrival-keeps, arrival-refused, pick-keeps}
 use Rattle.drr.proofs.Calls.{fresh-state-sound, setup-keeps, setup-refused, call-sound, call-hands-back, pick-fine, idle-still}
 use Rattle.drr.proofs.Figures as figures
 use Rattle.drr.proofs.Demand3 as demand3
+use Rattle.drr.proofs.Account as account
 use Rattle.drr.proofs.Paper.{algorithm-runs, algorithm-runs-only, algorithm-starts}
 use Rattle.figures.proofs.Laws.{time-least}
+use Rattle.figures.proofs.Claims as figure-claims
 use Rattle.figures.proofs.Vectors.{p1-to-p12}
 use Rattle.runfile.proofs.Claims as run-claims
 use Rattle.runfile.proofs.Counts.{act-is-call}
@@ -88,6 +96,10 @@ setup-gives-empty = setup-refused
 -- a refused run leaves the lent list as it came
 pub run-leaves : (b out : List ℕ) → (runAnswer b (length out) .refusal ≡ 0 → ⊥) → filled b out ≡ out
 run-leaves = run-claims.refused-leaves
+
+pub run-waiting-leaves : (b out beside : List ℕ) (room : ℕ) → (runAnswer b room .refusal ≡ 0 → ⊥) →
+    (filledLines room b out ≡ out) × (filledBeside room b beside ≡ beside)
+run-waiting-leaves = run-claims.refused-leaves-both
 
 -- ==== DEMAND 2: every pick is that of steps 1 to 3; on every sound line they have the function's answer, and no other
 pub pick-has-one : (T : Table) (l : Line) → Sound T l → Picks T l (pickOf T l .answer) (pickOf T l .line)
@@ -141,6 +153,44 @@ arrival-sound s f length ok = call-sound s _ _ ok (arrival-keeps (s .table) (lin
 
 pub pick-sound : (s : State) → SoundState s → SoundState (pickReply s .state)
 pick-sound s ok = call-sound s _ _ ok (pick-keeps (s .table) (lineIn (s .line)) ok)
+
+-- ==== E1, THE ACCOUNT, in crates/drr/specs/Account.antt: over any calls, refused ones among them, accepted and sent counted from the
+-- calls and their answers. From fresh of any setup that is accepted: accepted is sent and waiting, for each flow and for all together
+pub account-from-fresh : FreshAccount
+account-from-fresh = account.fresh-account
+
+pub account-from-fresh-of-all : FreshAccountOfAll
+account-from-fresh-of-all = account.fresh-account-of-all
+
+-- from any sound state, what waited before is added to what is accepted
+pub the-account : Account
+the-account = account.account
+
+pub the-account-of-all : AccountOfAll
+the-account-of-all = account.account-of-all
+
+-- what waits is what the public question answers (`waiting-bytes-meets`, in Meets.antt): from fresh, the accepted less the sent
+pub waiting-is-told : (xs : List FlowRecord) → setupReply xs .answer .refusal ≡ 0 → (cs : List Call) (i : ℕ) →
+    let s = setupReply xs .state in
+    i < s .table .n →
+    waitingAnswer (afterCalls s cs) i
+    ≡ figureIs (bytesAccepted (justFlow i) cs (answersTo s cs) - bytesGiven (justFlow i) (answersTo s cs))
+waiting-is-told = figure-claims.waiting-told
+
+-- in a sound state each flow's sum is that of its waiting lengths, and 0 for a flow that is not in use
+pub sums-are-true : (s : State) → SoundState s → (f : ℕ) → f < mostFlows → sumOf (lineIn (s .line)) f ≡ bytesWaitingIn f s
+sums-are-true s ok f low = ok .flows f low .true-sum
+
+pub unused-sums : (s : State) → SoundState s → (f : ℕ) → f < mostFlows → s .table .n ≤ f → sumOf (lineIn (s .line)) f ≡ 0
+unused-sums s ok f low past =
+    let l = lineIn (s .line) in
+    ok .flows f low .true-sum ∙ ap (λ (c : ℕ). bytesOf (take c (rowOf l f))) (ok .flows f low .unused past .no-count)
+
+-- at most 32 packets of 9,216 bytes wait in a flow
+pub waiting-is-at-most : (s : State) → SoundState s → (f : ℕ) → f < s .table .n → bytesWaitingIn f s ≤ 294912
+waiting-is-at-most s ok f used =
+    let low : f < mostFlows = omega (arith, ok .flows-few) in
+    omega (arith, sums-are-true s ok f low, sum-most (s .table) (lineIn (s .line)) ok f used)
 
 -- ==== the figures: owed is the least that reaches, wait the least S at which something is owed
 pub owed-is-least : (T : Table) (i S : ℕ) → 0 < allQuanta T →
@@ -212,9 +262,13 @@ module _ (b : List ℕ) (ok : fileAnswer b .refusal ≡ 0) where
   pub listing-length : length (runListing b) ≡ 6 * (eventCount b + 1)
   listing-length = run-claims.file-length b ok
 
-  -- S lines and D lines together are the events; a flow's packets are sent in the order of its accepted events, each once
+  -- S lines and D lines together are the events, and beside each of them stands one number; a flow's packets are sent in the order of its
+  -- accepted events, each once
   pub one-line-each : lineThree .sent + lineThree .refused ≡ eventCount b
   one-line-each = run-claims.file-lines b ok
+
+  pub one-number-each : length (runWaiting b) ≡ eventCount b
+  one-number-each = run-claims.file-beside b ok
 
   pub in-turn : (i : ℕ) → i < T .n → acceptedTo T (runCalls b) fresh i ≡ sentTo T (runCalls b) fresh i
   in-turn = run-claims.file-in-turn b ok
@@ -232,6 +286,11 @@ module _ (b : List ℕ) (ok : fileAnswer b .refusal ≡ 0) where
   -- what is printed of the list after the run: the listing's text, whatever stands behind it
   pub run-printed : (out : List ℕ) → runAnswer b (length out) .refusal ≡ 0 → listingText (filled b out) ≡ listingText (runListing b)
   run-printed out = printed.run-printed b out ok
+
+  -- .. and with what stands beside its lines, whatever stands behind either
+  pub run-waiting-printed : (room : ℕ) (out beside : List ℕ) → runAnswer b room .refusal ≡ 0 →
+      besideText (filledLines room b out) (filledBeside room b beside) ≡ besideText (runListing b) (runWaiting b)
+  run-waiting-printed room out beside = printed.waiting-printed b room out beside ok
 
 -- and a number is printed in the fewest digits that hold it
 pub fewest-digits : (n : ℕ) → n < 10 ^ 20 → Fewest 10 1 n (places n)

@@ -45,6 +45,8 @@ use Rattle.figures.proofs.wait_time.Statement as wait-time
 use Rattle.figures.proofs.wait_time.Met as wait-time-met
 use Rattle.figures.proofs.lag.Statement as lag
 use Rattle.figures.proofs.lag.Met as lag-met
+use Rattle.figures.proofs.waiting_bytes.Statement as waiting-bytes
+use Rattle.figures.proofs.waiting_bytes.Met as waiting-bytes-met
 use Rattle.figures.proofs.value_of.Statement as value-of
 use Rattle.figures.proofs.value_of.Met as value-of-met
 use Rattle.figures.proofs.all_figures.Statement as all-figures
@@ -59,8 +61,12 @@ use Rattle.runfile.proofs.fields.le4.Statement as le4
 use Rattle.runfile.proofs.fields.le4.Met as le4-met
 use Rattle.runfile.proofs.run.Statement as run
 use Rattle.runfile.proofs.run.Met as run-met
+use Rattle.runfile.proofs.run_waiting.Statement as run-waiting
+use Rattle.runfile.proofs.run_waiting.Met as run-waiting-met
 use Rattle.text.proofs.listing_text.Statement as listing-text
 use Rattle.text.proofs.listing_text.Met as listing-text-met
+use Rattle.text.proofs.beside_text.Statement as beside-text
+use Rattle.text.proofs.beside_text.Met as beside-text-met
 use Rattle.text.proofs.refusal_text.Statement as refusal-text
 use Rattle.text.proofs.refusal_text.Met as refusal-text-met
 use Rattle.text.proofs.numbers_text.Statement as numbers-text
@@ -81,6 +87,8 @@ use Rattle.answers.proofs.refusal_line.Statement as refusal-line
 use Rattle.answers.proofs.refusal_line.Met as refusal-line-met
 use Rattle.answers.proofs.run_text.Statement as run-text
 use Rattle.answers.proofs.run_text.Met as run-text-met
+use Rattle.answers.proofs.run_waiting_text.Statement as run-waiting-text
+use Rattle.answers.proofs.run_waiting_text.Met as run-waiting-text-met
 use Rattle.answers.proofs.figures_text.Statement as figures-text
 use Rattle.answers.proofs.figures_text.Met as figures-text-met
 use Rattle.textform.proofs.show.show_text.Statement as show-text
@@ -103,6 +111,8 @@ use Rattle.exports.proofs.wikulambag_wait.Statement as told-wait
 use Rattle.exports.proofs.wikulambag_wait.Met as told-wait-met
 use Rattle.exports.proofs.wikulambag_lag.Statement as told-lag
 use Rattle.exports.proofs.wikulambag_lag.Met as told-lag-met
+use Rattle.exports.proofs.wikulambag_waiting_bytes.Statement as told-waiting-bytes
+use Rattle.exports.proofs.wikulambag_waiting_bytes.Met as told-waiting-bytes-met
 use Rattle.exports.proofs.wikulambag_run.Statement as told-run
 use Rattle.exports.proofs.wikulambag_run.Met as told-run-met
 
@@ -176,6 +186,9 @@ wait-time-meets = wait-time-met.met
 pub lag-meets : {M : Type 1} → lag.statement M
 lag-meets = lag-met.met
 
+pub waiting-bytes-meets : {M : Type 1} → waiting-bytes.statement M
+waiting-bytes-meets = waiting-bytes-met.met
+
 pub value-of-meets : {M : Type 1} → value-of.statement M
 value-of-meets = value-of-met.met
 
@@ -192,6 +205,9 @@ read-flows-meets = read-flows-met.met
 pub run-meets : {M : Type 1} → run.statement M
 run-meets = run-met.met
 
+pub run-waiting-meets : {M : Type 1} → run-waiting.statement M
+run-waiting-meets = run-waiting-met.met
+
 -- .. and numbers that lie inside the bytes
 pub le2-meets : {M : Type 1} → le2.statement M
 le2-meets = le2-met.met
@@ -202,6 +218,9 @@ le4-meets = le4-met.met
 -- ---- the text
 pub listing-text-meets : {M : Type 1} → listing-text.statement M
 listing-text-meets = listing-text-met.met
+
+pub beside-text-meets : {M : Type 1} → beside-text.statement M
+beside-text-meets = beside-text-met.met
 
 pub refusal-text-meets : {M : Type 1} → refusal-text.statement M
 refusal-text-meets = refusal-text-met.met
@@ -233,6 +252,9 @@ refusal-line-meets = refusal-line-met.met
 
 pub run-text-meets : {M : Type 1} → run-text.statement M
 run-text-meets = run-text-met.met
+
+pub run-waiting-text-meets : {M : Type 1} → run-waiting-text.statement M
+run-waiting-text-meets = run-waiting-text-met.met
 
 pub figures-text-meets : {M : Type 1} → figures-text.statement M
 figures-text-meets = figures-text-met.met
@@ -268,6 +290,9 @@ told-wait-meets = told-wait-met.met
 
 pub told-lag-meets : {M : Type 1} → told-lag.statement M
 told-lag-meets = told-lag-met.met
+
+pub told-waiting-bytes-meets : {M : Type 1} → told-waiting-bytes.statement M
+told-waiting-bytes-meets = told-waiting-bytes-met.met
 
 pub told-run-meets : {M : Type 1} → told-run.statement M
 told-run-meets = told-run-met.met

@@ -54,6 +54,7 @@ use Rattle.figures.proofs.owed.Reads as of-owed
 use Rattle.figures.proofs.wait.Reads as of-wait
 use Rattle.figures.proofs.wait_time.Reads as of-wait-time
 use Rattle.figures.proofs.lag.Reads as of-lag
+use Rattle.figures.proofs.waiting_bytes.Reads as of-waiting-bytes
 use Rattle.figures.proofs.value_of.Reads as of-value-of
 use Rattle.figures.proofs.all_figures.Reads as of-all-figures
 use Rattle.runfile.proofs.reader.read.Reads as of-read
@@ -61,7 +62,9 @@ use Rattle.runfile.proofs.reader.read_flows.Reads as of-read-flows
 use Rattle.runfile.proofs.fields.le2.Reads as of-le2
 use Rattle.runfile.proofs.fields.le4.Reads as of-le4
 use Rattle.runfile.proofs.run.Reads as of-run
+use Rattle.runfile.proofs.run_waiting.Reads as of-run-waiting
 use Rattle.text.proofs.listing_text.Reads as of-listing-text
+use Rattle.text.proofs.beside_text.Reads as of-beside-text
 use Rattle.text.proofs.refusal_text.Reads as of-refusal-text
 use Rattle.text.proofs.numbers_text.Reads as of-numbers-text
 use Rattle.text.proofs.timed_text.Reads as of-timed-text
@@ -72,6 +75,7 @@ use Rattle.text.proofs.same.Reads as of-same
 use Rattle.text.proofs.around_text.Reads as of-around-text
 use Rattle.answers.proofs.refusal_line.Reads as of-refusal-line
 use Rattle.answers.proofs.run_text.Reads as of-run-text
+use Rattle.answers.proofs.run_waiting_text.Reads as of-run-waiting-text
 use Rattle.answers.proofs.figures_text.Reads as of-figures-text
 use Rattle.textform.proofs.show.show_text.Reads as of-show-text
 use Rattle.textform.proofs.make.make_file.Reads as of-make-file
@@ -83,6 +87,7 @@ use Rattle.exports.proofs.wikulambag_sound.Reads as told-sound
 use Rattle.exports.proofs.wikulambag_owed.Reads as told-owed
 use Rattle.exports.proofs.wikulambag_wait.Reads as told-wait
 use Rattle.exports.proofs.wikulambag_lag.Reads as told-lag
+use Rattle.exports.proofs.wikulambag_waiting_bytes.Reads as told-waiting-bytes
 use Rattle.exports.proofs.wikulambag_run.Reads as told-run
 
 -- ---- drr, widths: the result itself
@@ -151,27 +156,30 @@ one-sound-line κs a r t x y p q = p ∙ sym (q)
 pub one-sound-in : (κs : _) (a : _) (r t : Bool) (x y : _) → of-sound-in.Post κs a r x → of-sound-in.Post κs a t y → r ≡ t
 one-sound-in κs a r t x y p q = p ∙ sym (q)
 
--- the result, and the counts, the deficits and the rows at exit
+-- the result, and the counts, the sums, the deficits and the rows at exit
 pub one-pick-in : (κs : _) (a : _) (r t : Picking) (x y : _) → of-pick-in.Post κs a r x → of-pick-in.Post κs a t y →
     (r ≡ t) × (x .1 .1 .1 .0 .now ≡ y .1 .1 .1 .0 .now) × (x .1 .1 .1 .1 .0 .now ≡ y .1 .1 .1 .1 .0 .now)
-    × (x .1 .1 .1 .1 .1 .0 .now ≡ y .1 .1 .1 .1 .1 .0 .now)
+    × (x .1 .1 .1 .1 .1 .0 .now ≡ y .1 .1 .1 .1 .1 .0 .now) × (x .1 .1 .1 .1 .1 .1 .0 .now ≡ y .1 .1 .1 .1 .1 .1 .0 .now)
 one-pick-in κs a r t x y p q =
     let e = p ∙ sym q in
     let answer = papers.pick-one (r .answer) (t .answer) (ap (λ (z : Outcome). z .answer) e) in (
       λ i. record { answer = answer i; spot = record { place = e i .line .place; opened = e i .line .opened } },
       ap (λ (z : Outcome). z .line .counts) e,
+      ap (λ (z : Outcome). z .line .sums) e,
       ap (λ (z : Outcome). z .line .deficits) e,
       ap (λ (z : Outcome). z .line .rows) e,
     )
 
--- the result, and the counts and the rows at exit
+-- the result, and the counts, the sums and the rows at exit
 pub one-book : (κs : _) (a : _) (r t : ArrivalAnswer) (x y : _) → of-book.Post κs a r x → of-book.Post κs a t y →
     (r ≡ t) × (x .1 .1 .0 .now ≡ y .1 .1 .0 .now) × (x .1 .1 .1 .0 .now ≡ y .1 .1 .1 .0 .now)
+    × (x .1 .1 .1 .1 .0 .now ≡ y .1 .1 .1 .1 .0 .now)
 one-book κs a r t x y p q =
     let spot : Spot = record { place = 0; opened = true } in
     let e = p [] [] spot ∙ sym (q [] [] spot) in (
       papers.arrival-one r t (ap (λ (z : Outcome). z .answer) e),
       ap (λ (z : Outcome). z .line .counts) e,
+      ap (λ (z : Outcome). z .line .sums) e,
       ap (λ (z : Outcome). z .line .rows) e,
     )
 
@@ -188,6 +196,10 @@ one-wait-time κs a r t x y p q = figure-apart r t (p ∙ sym q)
 
 pub one-lag : (κs : _) (a : _) (r t : Figure) (x y : _) → of-lag.Post κs a r x → of-lag.Post κs a t y → r ≡ t
 one-lag κs a r t x y p q = figure-apart r t (p ∙ sym q)
+
+pub one-waiting-bytes : (κs : _) (a : _) (r t : Figure) (x y : _) → of-waiting-bytes.Post κs a r x → of-waiting-bytes.Post κs a t y →
+    r ≡ t
+one-waiting-bytes κs a r t x y p q = figure-apart r t (p ∙ sym q)
 
 pub one-value-of : (κs : _) (a : _) (r t : ℕ) (x y : _) → of-value-of.Post κs a r x → of-value-of.Post κs a t y → r ≡ t
 one-value-of κs a r t x y p q = p ∙ sym q
@@ -210,6 +222,11 @@ pub one-run : (κs : _) (a : _) (r t : Verdict) (x y : _) → of-run.Post κs a 
     (r ≡ t) × (x .1 .0 .now ≡ y .1 .0 .now)
 one-run κs a r t x y p q = (papers.verdict-one r t (p .0 ∙ sym (q .0)), p .1 ∙ sym (q .1))
 
+pub one-run-waiting : (κs : _) (a : _) (r t : Verdict) (x y : _) → of-run-waiting.Post κs a r x → of-run-waiting.Post κs a t y →
+    (r ≡ t) × (x .1 .0 .now ≡ y .1 .0 .now) × (x .1 .1 .0 .now ≡ y .1 .1 .0 .now)
+one-run-waiting κs a r t x y p q =
+    (papers.verdict-one r t (p .0 ∙ sym (q .0)), p .1 .0 ∙ sym (q .1 .0), p .1 .1 ∙ sym (q .1 .1))
+
 pub one-le2 : (κs : _) (a : _) (r t : ℕ) (x y : _) → of-le2.Post κs a r x → of-le2.Post κs a t y → r ≡ t
 one-le2 κs a r t x y p q = p .0 ∙ sym (q .0)
 
@@ -221,6 +238,10 @@ one-le4 κs a r t x y p q = p .0 ∙ sym (q .0)
 pub one-listing-text : (κs : _) (a : _) (r t : ℕ) (x y : _) → of-listing-text.Post κs a r x → of-listing-text.Post κs a t y →
     (r ≡ t) × (x .1 .0 .now ≡ y .1 .0 .now)
 one-listing-text κs a r t x y p q = (p .0 ∙ sym (q .0), p .1 ∙ sym (q .1))
+
+pub one-beside-text : (κs : _) (a : _) (r t : ℕ) (x y : _) → of-beside-text.Post κs a r x → of-beside-text.Post κs a t y →
+    (r ≡ t) × (x .1 .1 .0 .now ≡ y .1 .1 .0 .now)
+one-beside-text κs a r t x y p q = (p .0 ∙ sym (q .0), p .1 ∙ sym (q .1))
 
 pub one-refusal-text : (κs : _) (a : _) (r t : ℕ) (x y : _) → of-refusal-text.Post κs a r x → of-refusal-text.Post κs a t y →
     (r ≡ t) × (x .1 .1 .0 .now ≡ y .1 .1 .0 .now)
@@ -262,6 +283,10 @@ pub one-run-text : (κs : _) (a : _) (r t : ℕ) (x y : _) → of-run-text.Post 
     (r ≡ t) × (x .1 .0 .now ≡ y .1 .0 .now)
 one-run-text κs a r t x y p q = (p .0 ∙ sym (q .0), p .1 .0 ∙ sym (q .1 .0))
 
+pub one-run-waiting-text : (κs : _) (a : _) (r t : ℕ) (x y : _) → of-run-waiting-text.Post κs a r x → of-run-waiting-text.Post κs a t y →
+    (r ≡ t) × (x .1 .0 .now ≡ y .1 .0 .now)
+one-run-waiting-text κs a r t x y p q = (p .0 ∙ sym (q .0), p .1 .0 ∙ sym (q .1 .0))
+
 pub one-figures-text : (κs : _) (a : _) (r t : ℕ) (x y : _) → of-figures-text.Post κs a r x → of-figures-text.Post κs a t y →
     (r ≡ t) × (x .1 .1 .1 .0 .now ≡ y .1 .1 .1 .0 .now)
 one-figures-text κs a r t x y p q = (p .0 ∙ sym (q .0), p .1 .0 ∙ sym (q .1 .0))
@@ -301,6 +326,10 @@ one-told-wait κs a r t x y p q = p ∙ sym q
 
 pub one-told-lag : (κs : _) (a : _) (r t : FigureResult) (x y : _) → told-lag.Post κs a r x → told-lag.Post κs a t y → r ≡ t
 one-told-lag κs a r t x y p q = p ∙ sym q
+
+pub one-told-waiting-bytes : (κs : _) (a : _) (r t : FigureResult) (x y : _) → told-waiting-bytes.Post κs a r x →
+    told-waiting-bytes.Post κs a t y → r ≡ t
+one-told-waiting-bytes κs a r t x y p q = p ∙ sym q
 
 pub one-told-run : (κs : _) (a : _) (r t : RunResult) (x y : _) → told-run.Post κs a r x → told-run.Post κs a t y →
     (r ≡ t) × (x .1 .0 .now ≡ y .1 .0 .now)

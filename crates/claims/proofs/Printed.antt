@@ -1,10 +1,10 @@
--- What `run_text` and `figures_text` give for document 01's run in full, by the definitions that they meet, as theorems about its
--- 92 bytes; and its text form, as theorems about the text.
+-- What `run_text`, `run_waiting_text` and `figures_text` give for document 01's run in full, by the definitions that they meet, as
+-- theorems about its 92 bytes; and its text form, as theorems about the text.
 use mathlib.Core.Path.{_≡_, refl, sym, ap, _∙_}
-use mathlib.Core.Bool.{true}
+use mathlib.Core.Bool.{Bool, true, false, cond}
 use mathlib.Core.List.{List, [], _∷_, _++_}
 use Prim.Native.Nat.{ℕ, _+_, _*_, _-_, _/_, _<_}
-use lib.Dec.{lit<}
+use lib.Dec.{eqb, lit<}
 use Rattle.drr.specs.declared.Table.{Table}
 use Rattle.drr.specs.State.{quantumOf, maximumOf}
 use Rattle.drr.specs.Facts.{Ranged}
@@ -17,14 +17,15 @@ use Rattle.drr.proofs.Tables.{made-ranged}
 use Rattle.runfile.specs.File.{flowsIn, headerAnswer, fileAnswer, flowsReply}
 use Rattle.runfile.specs.Run.{calls}
 use Rattle.runfile.specs.Listing.{listing}
-use Rattle.text.specs.Text.{places, decimal, kinds, lineText, listingText, numbersText, timeText, timedText, titlesText, parted}
+use Rattle.text.specs.Text.{places, decimal, formText, kinds, formIn, lineText, besideText, listingText}
+use Rattle.text.specs.Text.{numbersText, timeText, timedText, titlesText, parted}
 use Rattle.text.proofs.Rows.{parted-space}
 use Rattle.figures.specs.Time.{waitTime}
 use Rattle.figures.specs.Needs.{Known}
 use Rattle.figures.proofs.Laws.{time-from}
 use Rattle.figures.proofs.Vectors.{waits, owes}
 use Rattle.answers.specs.declared.Dress.{Dress}
-use Rattle.answers.specs.Printed.{runText, answerText, flowFigures, flowLine, flowLines, plain, figuresText}
+use Rattle.answers.specs.Printed.{runText, waitingText, answerText, flowFigures, flowLine, flowLines, plain, figuresText}
 use Rattle.text.specs.Spelt.{spelt}
 use Rattle.textform.specs.declared.Want.the-variants as want
 use Rattle.textform.specs.declared.Making.the-variants.{Fault}
@@ -62,8 +63,35 @@ workedText =
     spelt "E 2100 5 1\n"
 
 pub worked-printed : runText worked ≡ workedText
-unfolding runText fileAnswer headerAnswer arrivalOf firstOf lookFor calls listing listingText lineText kinds decimal places
+unfolding runText fileAnswer headerAnswer arrivalOf firstOf lookFor calls listing besideText lineText kinds decimal places
 worked-printed = refl
+
+-- .. with the bytes that wait in each line's flow, as `drrrun --waiting` prints it: by hand from the events
+abbrev pub workedWaiting : List ℕ
+workedWaiting =
+    spelt "S 0 0 200 300 1 750\n" ++
+    spelt "D 100 2 700 3 400\n" ++
+    spelt "S 200 2 400 0 2 0\n" ++
+    spelt "S 600 0 750 50 1 0\n" ++
+    spelt "S 1350 1 500 100 1 250\n" ++
+    spelt "S 1850 1 250 150 1 0\n" ++
+    spelt "E 2100 5 1\n"
+
+pub worked-waiting : waitingText worked ≡ workedWaiting
+unfolding waitingText fileAnswer headerAnswer arrivalOf firstOf lookFor calls listing besideText lineText kinds decimal places
+worked-waiting = refl
+
+-- ---- without the option nothing stands beside a line: of six numbers, the letter and the fields of the line's form
+none-beside : (t : Bool) → cond {A = List ℕ} t [] [] ≡ []
+none-beside true = refl
+none-beside false = refl
+
+pub plain-listing : (k a b c d e : ℕ) (more : List ℕ) → listingText (k ∷ a ∷ b ∷ c ∷ d ∷ e ∷ more)
+    ≡ formText (formIn kinds k) (a ∷ b ∷ c ∷ d ∷ e ∷ []) [] ++ cond (eqb k 3) [] (listingText more)
+unfolding besideText lineText
+plain-listing k a b c d e more =
+    ap (λ (w : List ℕ). formText (formIn kinds k) (a ∷ b ∷ c ∷ d ∷ e ∷ []) w ++ cond (eqb k 3) [] (listingText more))
+    (none-beside (eqb k 3))
 
 -- ---- .. and of its flows' figures: `drrfigures 10000 100000 1000000`
 abbrev pub workedSizes : List ℕ

@@ -1,5 +1,5 @@
 -- Two stretches that meet what the floor asks, computed from the definitions: document 01's run as calls, and one in which something
--- is owed.
+-- is owed; and the account of the first.
 use mathlib.Core.Path.{_≡_, refl}
 use mathlib.Core.List.{List, [], _∷_}
 use Prim.Native.Nat.{_≤_, _<_}
@@ -13,9 +13,10 @@ use Rattle.drr.specs.Pick.{firstOf}
 use Rattle.drr.specs.Computed.{lookFor}
 use Rattle.drr.specs.Setup.{setupAnswer, setupTable, setupReply}
 use Rattle.drr.specs.Figures.{leastFrom, owed}
-use Rattle.drr.specs.Floor.{Call, arrives, picks, afterCalls, bytesSent, flowSent, WaitsAtPicks}
+use Rattle.drr.specs.Floor.{Call, arrives, picks, afterCalls, answersTo, bytesSent, flowSent, WaitsAtPicks}
+use Rattle.drr.specs.Account.{justFlow, anyFlow, bytesAccepted, bytesGiven, bytesWaitingIn, allBytesWaiting, Even}
 use Rattle.figures.specs.Vectors.{flow, worked}
-use Rattle.claims.proofs.Claims.{setup-sound, the-floor}
+use Rattle.claims.proofs.Claims.{setup-sound, the-floor, account-from-fresh, account-from-fresh-of-all}
 
 -- the four packets that arrive at tick 0 ..
 abbrev before : List Call
@@ -72,3 +73,46 @@ owing = record { waits = (lit< tt, (lit< tt, (lit< tt, (lit< tt, tt)))); bytes =
 pub floor-owing : owed (setupReply pair .state .table) 1 (bytesSent both four) ≤ flowSent both four 1
 unfolding setupAnswer setupTable
 floor-owing = the-floor (setupReply pair .state) (setup-sound pair) arrivals four 1 (lit< tt) (owing .waits)
+
+-- ---- the account of document 01's run after its first two picks and the arrival that is refused: of flow 0's 950 bytes 200 are sent and
+-- 750 wait; flow 2 had 400 accepted and sent, and its refused 700 are in neither
+abbrev some : List Call
+some = arrives 0 200 ∷ arrives 0 750 ∷ arrives 1 500 ∷ arrives 2 400 ∷ picks ∷ arrives 2 700 ∷ picks ∷ []
+
+abbrev start : State
+start = setupReply worked .state
+
+pub record Held : Type 0 where
+  pub accepted-0 : bytesAccepted (justFlow 0) some (answersTo start some) ≡ 950
+  pub sent-0 : bytesGiven (justFlow 0) (answersTo start some) ≡ 200
+  pub waiting-0 : bytesWaitingIn 0 (afterCalls start some) ≡ 750
+  pub accepted-2 : bytesAccepted (justFlow 2) some (answersTo start some) ≡ 400
+  pub sent-2 : bytesGiven (justFlow 2) (answersTo start some) ≡ 400
+  pub waiting-2 : bytesWaitingIn 2 (afterCalls start some) ≡ 0
+  pub accepted : bytesAccepted anyFlow some (answersTo start some) ≡ 1850
+  pub sent : bytesGiven anyFlow (answersTo start some) ≡ 600
+  pub waiting : allBytesWaiting (afterCalls start some) ≡ 1250
+
+pub held : Held
+unfolding all cellsb flowb soundb guarded arrivalOf firstOf lookFor setupAnswer setupTable
+held = record {
+  accepted-0 = refl;
+  sent-0 = refl;
+  waiting-0 = refl;
+  accepted-2 = refl;
+  sent-2 = refl;
+  waiting-2 = refl;
+  accepted = refl;
+  sent = refl;
+  waiting = refl;
+}
+
+-- so the account speaks of it
+pub account-here : Even (justFlow 0) (bytesWaitingIn 0) start some × Even (justFlow 2) (bytesWaitingIn 2) start some
+    × Even anyFlow allBytesWaiting start some
+unfolding setupAnswer setupTable
+account-here = (
+  account-from-fresh worked refl some 0 (lit< tt),
+  account-from-fresh worked refl some 2 (lit< tt),
+  account-from-fresh-of-all worked refl some,
+)

@@ -13,12 +13,12 @@ use Rattle.drr.specs.declared.State.{State}
 use Rattle.drr.specs.State.{Line, quantumOf, maximumOf, waitingOf, lineIn, stateFrom}
 use Rattle.drr.specs.Sound.{soundState}
 use Rattle.drr.specs.Facts.{Sound, SoundState}
-use Rattle.drr.specs.Answers.{Outcome, outcome, Reply, reply, arrivalRefused, pickRefused}
+use Rattle.drr.specs.Answers.{Answer, Outcome, outcome, Reply, reply, arrivalRefused, pickRefused}
 use Rattle.drr.specs.Arrival.{arrivalOf}
 use Rattle.drr.specs.Computed.{pickOf}
 use Rattle.drr.specs.Figures.{total, allQuanta, owed}
 use Rattle.drr.specs.Floor.{Call, arrives, picks, replyTo, afterCalls, callOf, lineAfter, sentIn, bytesIn, bytesSent, flowSent}
-use Rattle.drr.specs.Floor.{WaitsAtPicks, Floor}
+use Rattle.drr.specs.Floor.{answersTo, WaitsAtPicks, Floor}
 use Rattle.drr.proofs.Bools.{by-test}
 use Rattle.drr.proofs.Facts.{of-sound}
 use Rattle.drr.proofs.One.{pick-is}
@@ -34,6 +34,10 @@ use Rattle.drr.proofs.Bounds.{sound-bounded, fair}
 use Rattle.drr.proofs.Service.{view, picks-serve, booking}
 
 -- ---- calls on a line
+abbrev pub answersOf : Table → Line → List Call → List Answer
+answersOf T l [] = []
+answersOf T l (c ∷ cs) = callOf T l c .answer ∷ answersOf T (callOf T l c .line) cs
+
 abbrev pub lineBytes : Table → Line → List Call → ℕ
 lineBytes T l [] = 0
 lineBytes T l (c ∷ cs) = bytesIn (callOf T l c .answer) + lineBytes T (callOf T l c .line) cs
@@ -149,15 +153,16 @@ reply-is T l ok c = go c
     go picks = guarded-sound (stateFrom T l) (pickRefused 8) _ good
         ∙ ap (λ (k : Line). reply (pickOf T k .answer) (stateFrom T (pickOf T k .line))) (line-back T l)
 
--- the same calls on the state and on its line: what they leave, what they send, and whether a flow waits at each pick
+-- the same calls on the state and on its line: what they leave, answer and send, and whether a flow waits at each pick
 pub record Same (T : Table) (l : Line) (cs : List Call) : Type 0 where
   pub after : afterCalls (stateFrom T l) cs ≡ stateFrom T (lineAfter T l cs)
+  pub answers : answersTo (stateFrom T l) cs ≡ answersOf T l cs
   pub bytes : bytesSent (stateFrom T l) cs ≡ lineBytes T l cs
   pub sent : (i : ℕ) → flowSent (stateFrom T l) cs i ≡ lineSent T l cs i
   pub waits : (i : ℕ) → WaitsAtPicks (stateFrom T l) cs i → LineWaits T l cs i
 
 pub same : (T : Table) (l : Line) → Sound T l → (cs : List Call) → Same T l cs
-same T l ok [] = record { after = refl; bytes = refl; sent = λ i. refl; waits = λ i w. w }
+same T l ok [] = record { after = refl; answers = refl; bytes = refl; sent = λ i. refl; waits = λ i w. w }
 same T l ok (c ∷ cs) = go c (reply-is T l ok c) (same T (callOf T l c .line) (call-keeps T l ok c) cs)
   where
     waits : (c : Call) → replyTo (stateFrom T l) c ≡ reply (callOf T l c .answer) (stateFrom T (callOf T l c .line)) →
@@ -170,6 +175,8 @@ same T l ok (c ∷ cs) = go c (reply-is T l ok c) (same T (callOf T l c .line) (
         Same T (callOf T l c .line) cs → Same T l (c ∷ cs)
     go c e s = record {
       after = ap (λ (z : Reply). afterCalls (z .state) cs) e ∙ s .after;
+      answers = ap (λ (z : Reply). z .answer ∷ answersTo (z .state) cs) e
+          ∙ ap (λ (xs : List Answer). callOf T l c .answer ∷ xs) (s .answers);
       bytes = ap (λ (z : Reply). bytesIn (z .answer) + bytesSent (z .state) cs) e
           ∙ ap (λ (k : ℕ). bytesIn (callOf T l c .answer) + k) (s .bytes);
       sent = λ i. ap (λ (z : Reply). sentIn (z .answer) i + flowSent (z .state) cs i) e

@@ -1,20 +1,22 @@
 -- A line with its lengths is `Sound` exactly when the test `soundb` is true of it.
-use Prim.Native.Nat.{ℕ, _<_}
-use mathlib.Core.Path.{_≡_}
+use Prim.Native.Nat.{ℕ, _+_, _-_, _≤_, _<_}
+use mathlib.Core.Path.{_≡_, sym, ap, _∙_}
 use mathlib.Core.Bool.{Bool, true, not, _&&_, _||_}
 use mathlib.Core.Logic.{_⊎_, inl, inr, ⊎-elim}
 use native.Mathlib.Omega.{arith}
 use borrow.Author.Tests.{not-true, leb-true, ltb-true, ltb-false, eqb-true, eqb-false, le-leb, lt-ltb, le-ltb, eq-eqb, ne-eqb}
 use lib.Dec.{ltb, leb, eqb}
-use lib.ListN.{getD}
+use lib.ListN.{getD, take}
 use Rattle.drr.specs.declared.Table.{Table}
-use Rattle.drr.specs.State.{Line, quantumOf, maximumOf, deficitOf, waitingOf, rowOf, oldest, charge}
+use Rattle.drr.specs.State.{Line, quantumOf, maximumOf, deficitOf, waitingOf, sumOf, rowOf, bytesOf, bytesWaiting}
+use Rattle.drr.specs.State.{oldest, charge}
 use Rattle.drr.specs.Limits.{leastQuantum, mostQuantum, leastMaximum, mostMaximum, mostWaiting, mostFlows}
 use Rattle.drr.specs.Sound.{all, quantumb, maximumb, headb, rangeb, withinb, creditb, unusedb, numbersb}
-use Rattle.drr.specs.Sound.{visited, cellsb, flowb, soundb}
+use Rattle.drr.specs.Sound.{visited, cellsb, sumb, flowb, soundb}
 use Rattle.drr.specs.Facts.{Credit, InUse, Unused, Flow, Shaped, Sound}
 use Rattle.drr.proofs.Bools.{and-left, and-right, and-both, or-cases, or-inl, or-inr, not-of, chosen, choose, within-of}
-use Rattle.drr.proofs.Bools.{within-is, all-at, all-of}
+use Rattle.drr.proofs.Bools.{within-is, all-at, all-of, dec}
+use Rattle.drr.proofs.Lengths.{bytes-free}
 
 module _ (q m c : ℕ) where
   in-use : rangeb q m c ≡ true → InUse q m c
@@ -99,25 +101,50 @@ module _ (T : Table) (l : Line) (f : ℕ) where
   abbrev creditOf : Bool
   creditOf = creditb (visited l f) d q c (oldest l f)
 
+  abbrev numbersOf : Bool
+  numbersOf = numbersb (ltb f (T .n)) (visited l f) q m d c (oldest l f)
+
+  -- the free cells are zero
+  free-zero : all mostWaiting (cellsb T l f) ≡ true → (k : ℕ) → k < mostWaiting → c ≤ k → cell k ≡ 0
+  unfolding cellsb
+  free-zero a k x w =
+      eqb-true (cell k) 0
+      (chosen (ltb k c) (withinb 1 m (cell k)) (eqb (cell k) 0) (all-at mostWaiting (cellsb T l f) a k x) .1 (le-ltb k c w))
+
+  -- .. so all cells of a row have the bytes that wait
+  pub row-bytes : numbersOf ≡ true → all mostWaiting (cellsb T l f) ≡ true → bytesOf (take mostWaiting (rowOf l f)) ≡ bytesWaiting l f
+  row-bytes n a =
+      let h = chosen (ltb f (T .n)) (rangeOf && creditOf) (unusedb q m d c) n in
+      let few : c ≤ mostWaiting = ⊎-elim
+      (λ p. in-use q m c (and-left rangeOf creditOf (h .0 p)) .count-most)
+      (λ p. omega (arith, unused-is q m d c (h .1 p) .no-count))
+      (dec (ltb f (T .n))) in
+      let e : c + (mostWaiting - c) ≡ mostWaiting = omega arith in
+      ap (λ (k : ℕ). bytesOf (take k (rowOf l f))) (sym e)
+      ∙ bytes-free (rowOf l f) c (mostWaiting - c) (λ j x. free-zero a j (omega arith))
+
   pub flow-is : flowb T l f ≡ true → Flow T l f
   unfolding flowb cellsb
   flow-is e =
-      let a = numbersb (ltb f (T .n)) (visited l f) q m d c (oldest l f) in
+      let a = numbersOf in
       let b = all mostWaiting (cellsb T l f) in
-      let h = chosen (ltb f (T .n)) (rangeOf && creditOf) (unusedb q m d c) (and-left a b e) in
-      let g : ((k : ℕ) → k < mostWaiting → cellsb T l f k ≡ true) = all-at mostWaiting (cellsb T l f) (and-right a b e) in
+      let i = and-left (a && b) (sumb l f) e in
+      let h = chosen (ltb f (T .n)) (rangeOf && creditOf) (unusedb q m d c) (and-left a b i) in
+      let g : ((k : ℕ) → k < mostWaiting → cellsb T l f k ≡ true) = all-at mostWaiting (cellsb T l f) (and-right a b i) in
       record {
         used = λ x. in-use q m c (and-left rangeOf creditOf (h .0 (lt-ltb f (T .n) x)));
         credit = λ x. credit-is (visited l f) d q c (oldest l f) (and-right rangeOf creditOf (h .0 (lt-ltb f (T .n) x)));
         unused = λ x. unused-is q m d c (h .1 (le-ltb f (T .n) x));
         waiting = λ k x w. within-is 1 m (cell k) (chosen (ltb k c) (withinb 1 m (cell k)) (eqb (cell k) 0) (g k x) .0 (lt-ltb k c w));
-        rest = λ k x w. eqb-true (cell k) 0 (chosen (ltb k c) (withinb 1 m (cell k)) (eqb (cell k) 0) (g k x) .1 (le-ltb k c w));
+        rest = free-zero (and-right a b i);
+        true-sum = eqb-true (sumOf l f) (bytesWaiting l f) (and-right (a && b) (sumb l f) e);
       }
 
   pub of-flow : Flow T l f → flowb T l f ≡ true
   unfolding flowb cellsb
   of-flow u =
       and-both
+      (and-both
       (choose (ltb f (T .n)) (rangeOf && creditOf) (unusedb q m d c)
       (λ p. and-both (of-in-use q m c (u .used (ltb-true f (T .n) p)))
       (of-credit (visited l f) d q c (oldest l f) (u .credit (ltb-true f (T .n) p))))
@@ -125,7 +152,8 @@ module _ (T : Table) (l : Line) (f : ℕ) where
       (all-of mostWaiting (cellsb T l f)
       (λ k x. choose (ltb k c) (withinb 1 m (cell k)) (eqb (cell k) 0)
       (λ p. let w = u .waiting k x (ltb-true k c p) in within-of 1 m (cell k) (w .0) (w .1))
-      (λ p. eq-eqb (cell k) 0 (u .rest k x (ltb-false k c p)))))
+      (λ p. eq-eqb (cell k) 0 (u .rest k x (ltb-false k c p))))))
+      (eq-eqb (sumOf l f) (bytesWaiting l f) (u .true-sum))
 
 module _ (T : Table) (l : Line) where
   abbrev zerob : Bool

@@ -4,6 +4,7 @@ pub mod Copies
 pub mod Search
 pub mod Facts
 pub mod Shape
+pub mod Lengths
 pub mod Steps
 pub mod Visits
 pub mod One
@@ -23,5 +24,6 @@ pub mod Bounds
 pub mod Service
 pub mod Demand3
 pub mod Rows
+pub mod Account
 pub mod Meaning
 pub mod Paper

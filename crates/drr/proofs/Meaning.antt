@@ -4,12 +4,12 @@ use mathlib.Core.List.{List, []}
 use mathlib.Core.Logic.{⊎-elim}
 use Prim.Native.Nat.{ℕ, _≤_, _<_}
 use native.Mathlib.Omega.{arith}
-use lib.ListN.{length, getD}
+use lib.ListN.{length, getD, take}
 use lib.Seq.{ext-getD, getD-take, length-take-le}
 use Rattle.drr.specs.declared.Table.{Table}
 use Rattle.drr.specs.declared.State.{State}
 use Rattle.drr.specs.Limits.{mostFlows, mostWaiting}
-use Rattle.drr.specs.State.{Line, deficitOf, waitingOf, rowOf, lengthsIn, lineIn, stateFrom}
+use Rattle.drr.specs.State.{Line, deficitOf, waitingOf, rowOf, lengthsIn, bytesOf, lineIn, stateFrom}
 use Rattle.drr.specs.Facts.{Ranged, Sound, SoundState, SameTable, SameMeaning}
 use Rattle.drr.proofs.Bools.{below?}
 use Rattle.drr.proofs.States.{state-back}
@@ -71,6 +71,13 @@ module _ (T : Table) (l m : Line) (ok : Sound T l) (ok' : Sound T m)
   all-rows = ext-getD [] (l .rows) (m .rows) (ok .shape .rows-length ∙ sym (ok' .shape .rows-length)) (λ f low.
       same-row f (omega (arith, ok .shape .rows-length)))
 
+-- the sums of sound lines are told by what waits
+pub same-sums : (T : Table) (l m : Line) → Sound T l → Sound T m → l .counts ≡ m .counts → l .rows ≡ m .rows → l .sums ≡ m .sums
+same-sums T l m ok ok' counts rows =
+    ext-getD 0 (l .sums) (m .sums) (ok .shape .sums-length ∙ sym (ok' .shape .sums-length)) (λ f inside.
+    let low : f < mostFlows = omega (arith, ok .shape .sums-length) in
+    ok .flows f low .true-sum ∙ (λ i. bytesOf (take (getD (counts i) f 0) (getD (rows i) f []))) ∙ sym (ok' .flows f low .true-sum))
+
 pub one-state : (s t : State) → SoundState s → SoundState t → SameMeaning s t → s ≡ t
 one-state s t ok ok' e = sym (state-back (s .table) (s .line)) ∙ (λ i. stateFrom (table i) (line i)) ∙ state-back (t .table) (t .line)
   where
@@ -95,5 +102,15 @@ one-state s t ok ok' e = sym (state-back (s .table) (s .line)) ∙ (λ i. stateF
     rows : l .rows ≡ m .rows
     rows = all-rows (s .table) l m ok here (e .deficits) (e .waiting)
 
+    sums : l .sums ≡ m .sums
+    sums = same-sums (s .table) l m ok here counts rows
+
     line : l ≡ m
-    line = λ i. record { deficits = deficits i; counts = counts i; rows = rows i; place = e .places i; opened = e .visits i }
+    line = λ i. record {
+      deficits = deficits i;
+      counts = counts i;
+      sums = sums i;
+      rows = rows i;
+      place = e .places i;
+      opened = e .visits i;
+    }

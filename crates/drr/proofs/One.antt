@@ -18,7 +18,7 @@ use Rattle.drr.specs.Pick.Picks.{goes-on, closes, starts}
 use Rattle.drr.specs.Computed.{serve, turn, lookFor, enough, look, carryOn, pickAt, pickOf}
 use Rattle.drr.proofs.Bools.{apart}
 use Rattle.drr.proofs.Steps.{visit-passes, on-ends}
-use Rattle.drr.proofs.Sums.{sumOf}
+use Rattle.drr.proofs.Sums.{overFlows}
 use Rattle.drr.proofs.Visits.{sum-low, grows}
 
 same-flow : (o : Found) (f g : ℕ) → o ≡ At f → o ≡ At g → f ≡ g
@@ -67,7 +67,7 @@ Is T v l r = Looks T v l (r .answer) (r .line)
 
 -- one turn, whatever a return to step 2 gives, as long as that is right with one visit more and a smaller measure
 module _ (T : Table) (v : ℕ) (l : Line) (ok : Sound T l) (off : l .opened ≡ false) (goto2 : Line → Outcome)
-    (on : (t : Line) → Sound T t → t .opened ≡ false → mostMaxima - sumOf (t .deficits) < mostMaxima - sumOf (l .deficits) →
+    (on : (t : Line) → Sound T t → t .opened ≡ false → mostMaxima - overFlows (t .deficits) < mostMaxima - overFlows (l .deficits) →
     Is T (v + 1) t (goto2 t)) where
   served-is : (f : ℕ) → next T l ≡ At f → (b : Bool) → leb (oldestCharge l f) (deficitOf (openAt T l f) f) ≡ b →
       Is T v l (serve b (v + 1) (openAt T l f) f goto2)
@@ -82,7 +82,7 @@ module _ (T : Table) (v : ℕ) (l : Line) (ok : Sound T l) (off : l .opened ≡ 
   turned-is (At f) e = served-is f e (leb (oldestCharge l f) (deficitOf (openAt T l f) f)) refl
 
 -- the computation never runs short: its count is above the measure
-looks-for : (T : Table) (k v : ℕ) (l : Line) → Sound T l → l .opened ≡ false → mostMaxima - sumOf (l .deficits) < k →
+looks-for : (T : Table) (k v : ℕ) (l : Line) → Sound T l → l .opened ≡ false → mostMaxima - overFlows (l .deficits) < k →
     Is T v l (lookFor T k v l)
 unfolding lookFor
 looks-for T zero v l ok off h = absurd (omega arith)

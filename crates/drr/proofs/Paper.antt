@@ -13,17 +13,17 @@ use Rattle.drr.specs.Limits.{mostWaiting}
 use Rattle.drr.specs.declared.Table.{Table}
 use Rattle.drr.specs.declared.State.{State}
 use Rattle.drr.specs.declared.Found.the-variants.{At, Nothing}
-use Rattle.drr.specs.State.{Line, maximumOf, deficitOf, waitingOf, withVisit, lineIn, stateFrom, freshLine, freshState}
+use Rattle.drr.specs.State.{Line, maximumOf, deficitOf, waitingOf, lineIn, stateFrom, freshLine, freshState}
 use Rattle.drr.specs.Facts.{Sound, SoundState}
-use Rattle.drr.specs.Answers.{Answer, idle, accepted, arrivalRefused, Outcome, outcome, Reply}
+use Rattle.drr.specs.Answers.{Answer, idle, accepted, arrivalRefused, Outcome, outcome}
 use Rattle.drr.specs.Arrival.{put, arrivalOf}
 use Rattle.drr.specs.Pick.{after, firstOf, closed, emptied, Looks, Picks}
 use Rattle.drr.specs.Pick.Looks.{idles as finds-none, sends as serves, passes}
 use Rattle.drr.specs.Pick.Picks.{goes-on, closes, starts}
 use Rattle.drr.specs.Computed.{pickOf}
-use Rattle.drr.specs.Floor.{Call, arrives, picks, afterCalls, callOf, lineAfter}
+use Rattle.drr.specs.Floor.{Call, arrives, picks, afterCalls, answersTo, lineAfter}
 use Rattle.drr.specs.Paper.{Memory, assign, Point, line6, line12, line18, Reading, outside, inside, past, Runs}
-use Rattle.drr.specs.Paper.{memoryOf, pointOf, memoryIn, pointIn, startMemory, startPoint, queues, Serves, answersTo}
+use Rattle.drr.specs.Paper.{memoryOf, pointOf, memoryIn, pointIn, startMemory, startPoint, queues, Serves}
 use Rattle.drr.specs.Paper.Runs.{idles, selects, skips, sends, leaves, zeroes, keeps}
 use Rattle.drr.specs.Paper.Serves.{ends, books, runs}
 use Rattle.drr.proofs.Search.{after-in}
@@ -31,7 +31,8 @@ use Rattle.drr.proofs.Steps.{found-in, visit-passes, on-ends}
 use Rattle.drr.proofs.One.{pick-is}
 use Rattle.drr.proofs.Keeps.{arrival-keeps, pick-keeps}
 use Rattle.drr.proofs.States.{line-back, state-back}
-use Rattle.drr.proofs.Demand3.{call-keeps, reply-is, same}
+use Rattle.drr.proofs.Demand3.{answersOf, same}
+use Rattle.drr.proofs.Meaning.{same-sums}
 
 -- ---- one run at most
 pub runs-one : {T : Table} {r : Reading} {v k : ℕ} {p q o : Point} {m t u : Memory} {a b : Answer} → Runs T r v k p m a q t →
@@ -197,30 +198,27 @@ serves-one {T} {r} {o = o} {u = u} (runs {o = c} {w = w} {cs = cs} i j) (runs {o
     let z = serves-one j k' in
     (λ n. same .0 n ∷ z .0 n, z .1, z .2)
 
--- an arrival reads neither place nor visit, and leaves both
-abbrev elsewhere : ℕ → Bool → Outcome → Outcome
-elsewhere p o z = outcome (z .answer) (withVisit (z .line) p o)
+-- an arrival's answer and the queues after it depend on neither place, visit nor sums; and it leaves the point
+record Anywhere (T : Table) (l : Line) (z w : Outcome) : Type 0 where
+  told : w .answer ≡ z .answer
+  left : memoryOf (w .line) ≡ memoryOf (z .line)
+  stays : pointOf T (z .line) ≡ pointOf T l
 
-arrives-anywhere : (T : Table) (l : Line) (f x p : ℕ) (o : Bool) → arrivalOf T (withVisit l p o) f x ≡ elsewhere p o (arrivalOf T l f x)
+arrives-anywhere : (T : Table) (l : Line) (f x : ℕ) → Anywhere T l (arrivalOf T l f x) (arrivalOf T (queues (memoryOf l)) f x)
 unfolding arrivalOf
-arrives-anywhere T l f x p o = go (leb (T .n) f) (eqb x 0) (ltb (maximumOf T f) x) (leb mostWaiting (waitingOf l f))
+arrives-anywhere T l f x = go (leb (T .n) f) (eqb x 0) (ltb (maximumOf T f) x) (leb mostWaiting (waitingOf l f))
   where
     by : Bool → Bool → Bool → Bool → Line → Outcome
     by a b c d l =
         cond a (outcome (arrivalRefused 1) l) (cond b (outcome (arrivalRefused 2) l) (cond c (outcome (arrivalRefused 3) l)
         (cond d (outcome (arrivalRefused 4) l) (outcome accepted (put l f x)))))
 
-    go : (a b c d : Bool) → by a b c d (withVisit l p o) ≡ elsewhere p o (by a b c d l)
-    go true b c d = refl
-    go false true c d = refl
-    go false false true d = refl
-    go false false false true = refl
-    go false false false false = refl
-
--- the answers of calls on a line
-abbrev answersOf : Table → Line → List Call → List Answer
-answersOf T l [] = []
-answersOf T l (c ∷ cs) = callOf T l c .answer ∷ answersOf T (callOf T l c .line) cs
+    go : (a b c d : Bool) → Anywhere T l (by a b c d l) (by a b c d (queues (memoryOf l)))
+    go true b c d = record { told = refl; left = refl; stays = refl }
+    go false true c d = record { told = refl; left = refl; stays = refl }
+    go false false true d = record { told = refl; left = refl; stays = refl }
+    go false false false true = record { told = refl; left = refl; stays = refl }
+    go false false false false = record { told = refl; left = refl; stays = refl }
 
 calls-run : (T : Table) (r : Reading) (l : Line) → Sound T l → (cs : List Call) →
     Serves T r (pointOf T l) (memoryOf l) cs (answersOf T l cs) (pointOf T (lineAfter T l cs)) (memoryOf (lineAfter T l cs))
@@ -234,21 +232,13 @@ calls-run T r l ok (arrives f x ∷ cs) = go (calls-run T r (arrivalOf T l f x .
     go : {xs : List Answer} {q : Point} {t : Memory} → Serves T r (pointOf T (z .line)) (memoryOf (z .line)) cs xs q t →
         Serves T r (pointOf T l) (memoryOf l) (arrives f x ∷ cs) (z .answer ∷ xs) q t
     go {xs} {q} {t} rest =
-        let here = arrives-anywhere T l f x (l .place) (l .opened) in
-        let there = arrives-anywhere T l f x 0 false in
+        let here = arrives-anywhere T l f x in
         let stays : Serves T r (pointOf T l) (memoryOf (z .line)) cs xs q t =
-        subst (λ (p : Point). Serves T r p (memoryOf (z .line)) cs xs q t) (ap (λ (w : Outcome). pointOf T (w .line)) here) rest in
-        subst (λ (b : Answer). Serves T r (pointOf T l) (memoryOf l) (arrives f x ∷ cs) (b ∷ xs) q t)
-        (ap (λ (w : Outcome). w .answer) there)
-        (books (subst⁻¹ (λ (w : Outcome). Serves T r (pointOf T l) (memoryOf (w .line)) cs xs q t) there stays))
+        subst (λ (p : Point). Serves T r p (memoryOf (z .line)) cs xs q t) (here .stays) rest in
+        subst (λ (b : Answer). Serves T r (pointOf T l) (memoryOf l) (arrives f x ∷ cs) (b ∷ xs) q t) (here .told)
+        (books (subst⁻¹ (λ (m : Memory). Serves T r (pointOf T l) m cs xs q t) (here .left) stays))
 
 -- ---- the same on states, by the public calls
-answers-same : (T : Table) (l : Line) → Sound T l → (cs : List Call) → answersTo (stateFrom T l) cs ≡ answersOf T l cs
-answers-same T l ok [] = refl
-answers-same T l ok (c ∷ cs) =
-    ap (λ (z : Reply). z .answer ∷ answersTo (z .state) cs) (reply-is T l ok c)
-    ∙ ap (λ (xs : List Answer). callOf T l c .answer ∷ xs) (answers-same T (callOf T l c .line) (call-keeps T l ok c) cs)
-
 abbrev ServesAs : Reading → List Call → State → Type 0
 ServesAs r cs s =
     Serves (s .table) r (pointIn s) (memoryIn s) cs (answersTo s cs) (pointIn (afterCalls s cs)) (memoryIn (afterCalls s cs))
@@ -263,7 +253,7 @@ serves-as T l ok r cs =
     (line-back T t) lines in
     subst⁻¹ (λ (z : State). Serves T r (pointIn s) (memoryIn s) cs (answersTo s cs) (pointIn z) (memoryIn z)) (same T l ok cs .after)
     (subst⁻¹ (λ (xs : List Answer). Serves T r (pointIn s) (memoryIn s) cs xs (pointOf T t) (memoryIn (stateFrom T t)))
-    (answers-same T l ok cs) ends)
+    (same T l ok cs .answers) ends)
 
 -- from any sound state, over any calls of arrival and pick, the listing gives the answers of the calls and stands where the state does ..
 pub algorithm-runs : (s : State) → SoundState s → (r : Reading) (cs : List Call) →
@@ -289,7 +279,15 @@ algorithm-starts T = (ap line6 (first (T .n)), ap memoryOf (line-back T (freshLi
 pub point-tells : (T : Table) (l m : Line) → Sound T l → Sound T m → pointOf T l ≡ pointOf T m → memoryOf l ≡ memoryOf m → l ≡ m
 point-tells T l m x y p e =
     let z = spots (l .opened) (m .opened) refl refl p in
-    λ i. record { deficits = e i .deficits; counts = e i .counts; rows = e i .rows; place = z .0 i; opened = z .1 i }
+    let w = same-sums T l m x y (ap (λ (k : Memory). k .counts) e) (ap (λ (k : Memory). k .rows) e) in
+    λ i. record {
+      deficits = e i .deficits;
+      counts = e i .counts;
+      sums = w i;
+      rows = e i .rows;
+      place = z .0 i;
+      opened = z .1 i;
+    }
   where
     n : ℕ
     n = T .n

@@ -1,12 +1,12 @@
 -- First in, first out: what an arrival adds to a flow's row, and what a pick takes from it.
-use mathlib.Core.Path.{_≡_, refl, sym, ap, _∙_}
-use mathlib.Core.List.{List, [], _∷_, _++_, append-nil}
+use mathlib.Core.Path.{_≡_, refl, sym}
+use mathlib.Core.List.{[], _++_, append-nil}
 use mathlib.Core.Logic.{⊎-elim}
-use Prim.Native.Nat.{ℕ, zero, suc, _+_, _<_}
+use Prim.Native.Nat.{ℕ, _+_, _<_}
 use native.Mathlib.Omega.{arith}
 use borrow.Author.Tests.{eq-eqb, ne-eqb, leb-false}
 use lib.Dec.{ltb, leb, eqb}
-use lib.ListN.{length, set, take}
+use lib.ListN.{set}
 use lib.Seq.{getD-set-same, getD-set-other}
 use Rattle.drr.specs.Limits.{mostWaiting}
 use Rattle.drr.specs.declared.Table.{Table}
@@ -17,16 +17,12 @@ use Rattle.drr.specs.Arrival.{put, arrivalOf}
 use Rattle.drr.specs.Computed.{pickOf}
 use Rattle.drr.specs.Floor.{givenIn, addedTo}
 use Rattle.drr.proofs.Bools.{by-test, same?}
+use Rattle.drr.proofs.Lengths.{take-set}
 use Rattle.drr.proofs.Steps.{low}
 use Rattle.drr.proofs.One.{pick-is}
 use Rattle.drr.proofs.Round.{cyclic}
 use Rattle.drr.proofs.Service.{picks-serve}
 use Rattle.drr.proofs.Demand3.{placed}
-
-take-set : (row : List ℕ) (c v : ℕ) → c < length row → take (suc c) (set row c v) ≡ take c row ++ (v ∷ [])
-take-set [] c v h = absurd (omega arith)
-take-set (x ∷ xs) zero v h = refl
-take-set (x ∷ xs) (suc c) v h = ap (λ (r : List ℕ). x ∷ r) (take-set xs c v (omega arith))
 
 module _ (T : Table) (i : ℕ) (i<n : i < T .n) where
   pub pick-takes : (l : Line) → Sound T l → lengthsIn l i ≡ givenIn (pickOf T l .answer) i ++ lengthsIn (pickOf T l .line) i
@@ -43,8 +39,7 @@ module _ (T : Table) (i : ℕ) (i<n : i < T .n) where
           getD-set-same (l .counts) f (waitingOf l f + 1) 0 (omega (arith, ok .shape .counts-length, inside)),
           getD-set-same (l .rows) f (set (rowOf l f) (waitingOf l f) len) [] (omega (arith, ok .shape .rows-length, inside)),
         )
-        (ap (λ (k : ℕ). take k (set (rowOf l f) (waitingOf l f) len)) next
-        ∙ take-set (rowOf l f) (waitingOf l f) len (omega (arith, ok .shape .row-length f inside)))))
+        (take-set (rowOf l f) (waitingOf l f) len (omega (arith, ok .shape .row-length f inside)))))
         (λ ne. rw (
           ne-eqb f i (λ d. ne (sym d)),
           getD-set-other (l .counts) f i (waitingOf l f + 1) 0 ne,
@@ -54,9 +49,6 @@ module _ (T : Table) (i : ℕ) (i<n : i < T .n) where
       where
         inside : f < 16
         inside = low T l ok f in-table
-
-        next : waitingOf l f + 1 ≡ suc (waitingOf l f)
-        next = omega arith
 
     pub arrival-adds : P (arrivalOf T l f len)
     unfolding arrivalOf

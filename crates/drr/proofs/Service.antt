@@ -1,14 +1,14 @@
 -- Under any lawful order of visits: what a pick and an arrival are to flow i, with what is known of the line after them.
-use mathlib.Core.Path.{_≡_, refl, sym, ap, _∙_}
+use mathlib.Core.Path.{_≡_, refl, sym, _∙_}
 use mathlib.Core.Logic.{_≢_, _⊎_, ⊎-elim}
 use mathlib.Core.Bool.{Bool, true, false, cond}
-use mathlib.Core.List.{List, [], _∷_, _++_}
-use Prim.Native.Nat.{ℕ, zero, suc, _+_, _-_, _≤_, _<_}
+use mathlib.Core.List.{[], _++_}
+use Prim.Native.Nat.{ℕ, _+_, _-_, _≤_, _<_}
 use native.Mathlib.Omega.{arith}
 use borrow.Author.Tests.{ltb-false, eq-eqb, ne-eqb, eqb-true}
 use lib.Dec.{ltb, eqb}
-use lib.ListN.{length, getD, set, take, length-set}
-use lib.Seq.{getD-set-same, getD-set-other, set-getD, take-append-le}
+use lib.ListN.{length, set, length-set}
+use lib.Seq.{getD-set-same, getD-set-other, set-getD}
 use Rattle.drr.specs.declared.Table.{Table}
 use Rattle.drr.specs.declared.Found.the-variants.{At, Nothing}
 use Rattle.drr.specs.State.{Line, quantumOf, maximumOf, deficitOf, waitingOf, rowOf, lengthsIn, oldest, oldestCharge, shiftedOf}
@@ -22,20 +22,13 @@ use Rattle.drr.specs.Figures.{total}
 use Rattle.drr.specs.Floor.{givenIn, sentIn, bytesIn}
 use Rattle.drr.proofs.Bools.{same?}
 use Rattle.drr.proofs.Papers.{sent-not-idle}
+use Rattle.drr.proofs.Lengths.{take-first}
 use Rattle.drr.proofs.Steps.{found-in, grown, before, visit-passes, place-in, open-below, on-ends}
 use Rattle.drr.proofs.Sums.{total-none, total-one}
 use Rattle.drr.proofs.Stretches.{View, Stretch, start, quiet}
 use Rattle.drr.proofs.Ranks.{only, only-same, only-other, seen, NoPass, rest, send, close, visit-own, visit-other}
 use Rattle.drr.proofs.Order.{Order}
 use Rattle.drr.proofs.Bounds.{Bounded, charge-within, closed-below, not-open, not-place, sound-bounded, sent-bounded}
-
--- sending takes the first of them
-take-first : (row : List ℕ) (c : ℕ) → 0 < c → c ≤ length row → take c row ≡ getD row 0 0 ∷ take (c - 1) (shiftedOf row)
-take-first [] c some most = absurd (omega arith)
-take-first (x ∷ xs) zero some most = absurd (omega arith)
-take-first (x ∷ xs) (suc c) some most =
-    let e : suc c - 1 ≡ c = omega arith in
-    ap (λ (r : List ℕ). x ∷ r) (sym (take-append-le c xs (0 ∷ []) (omega arith)) ∙ ap (λ (k : ℕ). take k (xs ++ 0 ∷ [])) (sym e))
 
 module _ (T : Table) {Fit : Line → Type 0} {rank : Line → ℕ → ℕ} (O : Order T Fit rank) (i : ℕ) (i<n : i < T .n) where
   abbrev pub view : Line → View

@@ -44,13 +44,14 @@ pub shaped : (s : State) (vs : List Val) → Is state.the-row s vs → Shaped (s
 shaped s vs g =
     let a = g .1 .1 .0 .1 .1 in
     let b = g .1 .1 .1 .0 .1 .1 in
-    let r = b .1 .1 .1 .1 .0 in
+    let r = b .1 .1 .1 .1 .1 .0 in
     let long : length (s .line .rows) ≡ 16 = array-long row.the-field 16 (s .line .rows) _ r in
     record {
       quanta-length = array-long u32-field 16 (s .table .quanta) _ (a .1 .0);
       maxima-length = array-long u32-field 16 (s .table .maxima) _ (a .1 .1 .0);
       deficits-length = array-long u32-field 16 (s .line .deficits) _ (b .0);
       counts-length = array-long u8-field 16 (s .line .counts) _ (b .1 .0);
+      sums-length = array-long u32-field 16 (s .line .sums) _ (b .1 .1 .0);
       rows-length = length-map (s .line .rows) lengthsOf ∙ long;
       row-length = λ f low.
           ap length (List·getD-map lengthsOf (s .line .rows) f (rowFrom []))

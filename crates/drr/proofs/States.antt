@@ -27,13 +27,13 @@ table-apart T is = ap (λ (k : Common). tableOf k (T .quanta) (T .maxima)) is
 
 -- a line taken apart, with its rows as cells
 pub line-apart : (l : StoredLine) (cells : List (List ℕ)) → cells ≡ cellsIn (l .rows) →
-    lineOf (l .counts) (l .deficits) cells (spotAt (l .place) (l .opened)) ≡ lineIn l
+    lineOf (l .counts) (l .sums) (l .deficits) cells (spotAt (l .place) (l .opened)) ≡ lineIn l
 line-apart l cells is = rw is
 
 -- a line put together
-pub line-whole : (cs ds : List ℕ) (cells : List (List ℕ)) (p : ℕ) (o : Bool) (rows : List Row) → rows ≡ rowsFrom cells →
-    lineIn (record { deficits = ds; counts = cs; place = p; opened = o; rows = rows }) ≡ lineOf cs ds cells (spotAt p o)
-line-whole cs ds cells p o rows is = rw (is, cells-back cells)
+pub line-whole : (cs ws ds : List ℕ) (cells : List (List ℕ)) (p : ℕ) (o : Bool) (rows : List Row) → rows ≡ rowsFrom cells →
+    lineIn (record { deficits = ds; counts = cs; sums = ws; place = p; opened = o; rows = rows }) ≡ lineOf cs ws ds cells (spotAt p o)
+line-whole cs ws ds cells p o rows is = rw (is, cells-back cells)
 
 -- the state made of the line in a stored line is the state with that line
 pub state-back : (T : Table) (l : StoredLine) → stateFrom T (lineIn l) ≡ record { table = T; line = l }

@@ -2,58 +2,53 @@
 use mathlib.Core.Path.{_≡_, refl, sym, ap, _∙_}
 use mathlib.Core.Bool.{Bool, true, false, _&&_, true≢false, false≢true}
 use mathlib.Core.Logic.{_⊎_, inl, ⊎-elim}
-use mathlib.Core.List.{List, [], _∷_, _++_}
+use mathlib.Core.List.{List, []}
 use Prim.Native.Nat.{ℕ, zero, suc, _+_, _-_, _≤_, _<_}
 use native.Mathlib.Omega.{arith}
-use native.Mathlib.Numerals.{add-one}
 use borrow.Author.Tests.{ne-eqb, eq-eqb, lt-ltb, le-ltb}
 use lib.Dec.{eqb}
-use lib.ListN.{length, getD, set, drop, length-set, length-append, length-drop, List·getD-eq-default}
+use lib.ListN.{length, getD, set, length-set, List·getD-eq-default}
 use lib.Seq.{getD-set-same, getD-set-other, set-set}
-use Rattle.drr.specs.Limits.{mostWaiting}
+use Rattle.drr.specs.Limits.{mostMaximum, mostWaiting, mostBytes}
 use Rattle.drr.specs.declared.Table.{Table}
 use Rattle.drr.specs.declared.Found.the-variants.{At}
 use Rattle.drr.specs.State.{Line, quantumOf, maximumOf, deficitOf, waitingOf, rowOf, charge, oldestCharge, withDeficit, withRow}
-use Rattle.drr.specs.State.{withVisit, shiftedOf}
+use Rattle.drr.specs.State.{lineOf, spotAt}
+use Rattle.drr.specs.State.{sumOf, oldest, withVisit, shiftedOf}
 use Rattle.drr.specs.Sound.{visited}
 use Rattle.drr.specs.Facts.{Credit, FlowFacts, Flow, Shaped, Sound}
 use Rattle.drr.specs.Arrival.{put}
 use Rattle.drr.specs.Pick.{firstOf, next, openAt, closed, emptied, sent, Ready}
 use Rattle.drr.proofs.Bools.{apart, same?, below?}
+use Rattle.drr.proofs.Lengths.{shift-at, shift-long, bytes-put, bytes-taken, bytes-most}
 use Rattle.drr.proofs.Search.{found-waits}
 
--- ---- a row without its oldest length
-snoc-at : (row : List ℕ) (k : ℕ) → getD (row ++ 0 ∷ []) k 0 ≡ getD row k 0
-snoc-at [] zero = refl
-snoc-at [] (suc k) = refl
-snoc-at (x ∷ xs) zero = refl
-snoc-at (x ∷ xs) (suc k) = snoc-at xs k
-
-pub shift-at : (row : List ℕ) (k : ℕ) → getD (shiftedOf row) k 0 ≡ getD row (k + 1) 0
-shift-at [] k = snoc-at [] k
-shift-at (x ∷ xs) k = snoc-at xs k ∙ sym (ap (λ (j : ℕ). getD (x ∷ xs) j 0) (add-one k))
-
-shift-long : (row : List ℕ) → length row ≡ 32 → length (shiftedOf row) ≡ 32
-shift-long row e = length-append (drop 1 row) (0 ∷ []) ∙ omega (arith, length-drop 1 row)
-
 -- ---- one flow
-module _ {T : Table} {f : ℕ} {v : Bool} {d c : ℕ} {row : List ℕ} (u : FlowFacts T f v d c row) (in-table : f < T .n) where
+module _ {T : Table} {f : ℕ} {v : Bool} {d c w : ℕ} {row : List ℕ} (u : FlowFacts T f v d c w row) (in-table : f < T .n) where
   -- another deficit, and a visit open or not
-  recredit : (v' : Bool) (d' : ℕ) → Credit v' d' (quantumOf T f) c (charge (getD row 0 0)) → FlowFacts T f v' d' c row
+  recredit : (v' : Bool) (d' : ℕ) → Credit v' d' (quantumOf T f) c (charge (getD row 0 0)) → FlowFacts T f v' d' c w row
   recredit v' d' credit =
-      record { used = u .used; credit = λ _. credit; unused = λ y. absurd (omega arith); waiting = u .waiting; rest = u .rest }
+      record {
+        used = u .used;
+        credit = λ _. credit;
+        unused = λ y. absurd (omega arith);
+        waiting = u .waiting;
+        rest = u .rest;
+        true-sum = u .true-sum;
+      }
 
   -- its oldest packet sent in a visit
-  sent-flow : length row ≡ 32 → 0 < c → (d' : ℕ) → d' < quantumOf T f → FlowFacts T f true d' (c - 1) (shiftedOf row)
+  sent-flow : length row ≡ 32 → 0 < c → (d' : ℕ) → d' < quantumOf T f →
+      FlowFacts T f true d' (c - 1) (w - getD row 0 0) (shiftedOf row)
   sent-flow long some d' small =
-      let w = u .used in-table in
+      let z = u .used in-table in
       record {
         used = λ _. record {
-          quantum-least = w .quantum-least;
-          quantum-most = w .quantum-most;
-          maximum-least = w .maximum-least;
-          maximum-most = w .maximum-most;
-          count-most = omega (arith, w .count-most);
+          quantum-least = z .quantum-least;
+          quantum-most = z .quantum-most;
+          maximum-least = z .maximum-least;
+          maximum-most = z .maximum-most;
+          count-most = omega (arith, z .count-most);
         };
         credit = λ _. record {
           visited-below = λ _. small;
@@ -62,24 +57,26 @@ module _ {T : Table} {f : ℕ} {v : Bool} {d c : ℕ} {row : List ℕ} (u : Flow
               (true≢false p);
         };
         unused = λ y. absurd (omega arith);
-        waiting = λ k x y. rw (shift-at row k) (u .waiting (k + 1) (omega (arith, w .count-most)) (omega arith));
+        waiting = λ k x y. rw (shift-at row k) (u .waiting (k + 1) (omega (arith, z .count-most)) (omega arith));
         rest = λ k x y. shift-at row k ∙ ⊎-elim
             (λ lo. u .rest (k + 1) lo (omega arith))
             (λ hi. List·getD-eq-default row 0 {n = k + 1} (omega arith))
             (below? (k + 1) 32);
+        true-sum = omega (arith, u .true-sum, bytes-taken row c some (omega (arith, z .count-most)));
       }
 
   -- one length more at the end of its row
-  put-flow : length row ≡ 32 → c < 32 → (len : ℕ) → 1 ≤ len → len ≤ maximumOf T f → FlowFacts T f v d (c + 1) (set row c len)
+  put-flow : length row ≡ 32 → c < 32 → (len : ℕ) → 1 ≤ len → len ≤ maximumOf T f →
+      FlowFacts T f v d (c + 1) (w + len) (set row c len)
   put-flow long room len least most =
-      let w = u .used in-table in
+      let z = u .used in-table in
       let k₀ = u .credit in-table in
       record {
         used = λ _. record {
-          quantum-least = w .quantum-least;
-          quantum-most = w .quantum-most;
-          maximum-least = w .maximum-least;
-          maximum-most = w .maximum-most;
+          quantum-least = z .quantum-least;
+          quantum-most = z .quantum-most;
+          maximum-least = z .maximum-least;
+          maximum-most = z .maximum-most;
           count-most = omega arith;
         };
         credit = λ _. record {
@@ -97,6 +94,7 @@ module _ {T : Table} {f : ℕ} {v : Bool} {d c : ℕ} {row : List ℕ} (u : Flow
             (λ e. let h = u .waiting k x (omega (arith, e)) in omega (arith, there k e))
             (same? k c);
         rest = λ k x y. there k (λ e. omega arith) ∙ u .rest k x (omega arith);
+        true-sum = omega (arith, u .true-sum, bytes-put row c len (omega arith));
       }
     where
       here : getD (set row c len) c 0 ≡ len
@@ -116,24 +114,46 @@ module _ (T : Table) (l : Line) (ok : Sound T l) (p : ℕ) (in-table : p < T .n)
   was : Flow T l p
   was = ok .flows p low
 
+  row-counted : waitingOf l p ≤ length (rowOf l p)
+  row-counted = omega (arith, ok .shape .row-length p low, was .used in-table .count-most)
+
+  -- the sum has the oldest length, and at most as many bytes as can wait
+  pub oldest-held : 0 < waitingOf l p → oldest l p ≤ sumOf l p
+  oldest-held some = omega (arith, was .true-sum, bytes-taken (rowOf l p) (waitingOf l p) some row-counted)
+
+  pub sum-most : sumOf l p ≤ mostBytes
+  sum-most =
+      let u = was .used in-table in
+      omega (
+        arith,
+        was .true-sum,
+        u .count-most,
+        bytes-most (rowOf l p) mostMaximum (waitingOf l p)
+            (λ j k. omega (arith, was .waiting j (omega (arith, u .count-most)) k .1, u .maximum-most)),
+      )
+
   deficit-here : (d : ℕ) → getD (set (l .deficits) p d) p 0 ≡ d
   deficit-here d = getD-set-same (l .deficits) p d 0 (omega (arith, low, ok .shape .deficits-length))
 
   count-here : (c : ℕ) → getD (set (l .counts) p c) p 0 ≡ c
   count-here c = getD-set-same (l .counts) p c 0 (omega (arith, low, ok .shape .counts-length))
 
+  sum-here : (w : ℕ) → getD (set (l .sums) p w) p 0 ≡ w
+  sum-here w = getD-set-same (l .sums) p w 0 (omega (arith, low, ok .shape .sums-length))
+
   row-here : (row : List ℕ) → getD (set (l .rows) p row) p [] ≡ row
   row-here row = getD-set-same (l .rows) p row [] (omega (arith, low, ok .shape .rows-length))
 
-  changed-shape : (ds : List ℕ) → length ds ≡ 16 → (c : ℕ) (row : List ℕ) → length row ≡ 32 → (g : ℕ) (o : Bool) →
-      Shaped T (record { deficits = ds; counts = set (l .counts) p c; rows = set (l .rows) p row; place = g; opened = o })
-  changed-shape ds size c row long g o =
+  changed-shape : (ds : List ℕ) → length ds ≡ 16 → (c w : ℕ) (row : List ℕ) → length row ≡ 32 → (g : ℕ) (o : Bool) →
+      Shaped T (lineOf (set (l .counts) p c) (set (l .sums) p w) ds (set (l .rows) p row) (spotAt g o))
+  changed-shape ds size c w row long g o =
       let z = ok .shape in
       record {
         quanta-length = z .quanta-length;
         maxima-length = z .maxima-length;
         deficits-length = size;
         counts-length = length-set (l .counts) p c ∙ z .counts-length;
+        sums-length = length-set (l .sums) p w ∙ z .sums-length;
         rows-length = length-set (l .rows) p row ∙ z .rows-length;
         row-length = λ g x. ⊎-elim
             (λ e. rw e (rw (row-here row) long))
@@ -147,13 +167,18 @@ module _ (T : Table) (l : Line) (ok : Sound T l) (p : ℕ) (in-table : p < T .n)
       let row = set (rowOf l p) (waitingOf l p) len in
       let long = ok .shape .row-length p low in
       record {
-        shape = changed-shape (l .deficits) (ok .shape .deficits-length) (waitingOf l p + 1) row
+        shape = changed-shape (l .deficits) (ok .shape .deficits-length) (waitingOf l p + 1) (sumOf l p + len) row
             (length-set (rowOf l p) (waitingOf l p) len ∙ long) (l .place) (l .opened);
         flows-few = ok .flows-few;
         placed = ok .placed;
         flows = λ g x. ⊎-elim
-            (λ e. rw e (rw (count-here (waitingOf l p + 1), row-here row) (put-flow was in-table long room len least most)))
-            (λ ne. rw (getD-set-other (l .counts) p g (waitingOf l p + 1) 0 ne, getD-set-other (l .rows) p g row [] ne) (ok .flows g x))
+            (λ e. rw e (rw (count-here (waitingOf l p + 1), sum-here (sumOf l p + len), row-here row)
+            (put-flow was in-table long room len least most)))
+            (λ ne. rw (
+              getD-set-other (l .counts) p g (waitingOf l p + 1) 0 ne,
+              getD-set-other (l .sums) p g (sumOf l p + len) 0 ne,
+              getD-set-other (l .rows) p g row [] ne,
+            ) (ok .flows g x))
             (same? g p);
       }
 
@@ -180,6 +205,7 @@ module _ (T : Table) (l : Line) (ok : Sound T l) (p : ℕ) (in-table : p < T .n)
         maxima-length = ok .shape .maxima-length;
         deficits-length = length-set (l .deficits) p d ∙ ok .shape .deficits-length;
         counts-length = ok .shape .counts-length;
+        sums-length = ok .shape .sums-length;
         rows-length = ok .shape .rows-length;
         row-length = ok .shape .row-length;
       };
@@ -195,18 +221,25 @@ module _ (T : Table) (l : Line) (ok : Sound T l) (p : ℕ) (in-table : p < T .n)
 
     -- its oldest packet sent, its visit open
     serves : 0 < waitingOf l p → (d : ℕ) → d < quantumOf T p →
-        Sound T (withVisit (withRow (withDeficit l p d) p (waitingOf l p - 1) (shiftedOf (rowOf l p))) p true)
+        Sound T (withVisit (withRow (withDeficit l p d) p (waitingOf l p - 1) (sumOf l p - oldest l p) (shiftedOf (rowOf l p))) p true)
     serves some d small = record {
       shape = changed-shape (set (l .deficits) p d) (length-set (l .deficits) p d ∙ ok .shape .deficits-length) (waitingOf l p - 1)
-          (shiftedOf (rowOf l p)) (shift-long (rowOf l p) (ok .shape .row-length p low)) p true;
+          (sumOf l p - oldest l p) (shiftedOf (rowOf l p)) (shift-long (rowOf l p) (ok .shape .row-length p low)) p true;
       flows-few = ok .flows-few;
       placed = inl in-table;
       flows = λ g x. ⊎-elim
-          (λ e. rw e (rw (deficit-here d, count-here (waitingOf l p - 1), row-here (shiftedOf (rowOf l p)), eq-eqb p p refl)
+          (λ e. rw e (rw (
+            deficit-here d,
+            count-here (waitingOf l p - 1),
+            sum-here (sumOf l p - oldest l p),
+            row-here (shiftedOf (rowOf l p)),
+            eq-eqb p p refl,
+          )
           (sent-flow was in-table (ok .shape .row-length p low) some d small)))
           (λ ne. rw (
             getD-set-other (l .deficits) p g d 0 ne,
             getD-set-other (l .counts) p g (waitingOf l p - 1) 0 ne,
+            getD-set-other (l .sums) p g (sumOf l p - oldest l p) 0 ne,
             getD-set-other (l .rows) p g (shiftedOf (rowOf l p)) [] ne,
             other true g ne,
             ← unmarked g ne,

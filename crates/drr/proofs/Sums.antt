@@ -53,8 +53,8 @@ total-most zero f b h = omega arith
 total-most (suc n) f b h = omega (arith, total-most n f b (λ j l. h j (omega arith)), h n (omega arith))
 
 -- ---- the sum of the numbers that a list has for the flows; shut, so that arithmetic takes it for one number
-unfoldable pub sumOf : List ℕ → ℕ
-sumOf xs = total mostFlows (λ f. getD xs f 0)
+unfoldable pub overFlows : List ℕ → ℕ
+overFlows xs = total mostFlows (λ f. getD xs f 0)
 
 total-set : (n : ℕ) (xs : List ℕ) (i v : ℕ) → i < n → i < length xs →
     total n (λ f. getD (set xs i v) f 0) + getD xs i 0 ≡ total n (λ f. getD xs f 0) + v
@@ -66,17 +66,17 @@ total-set n xs i v low inside =
       total-but n (λ f. getD xs f 0) (λ f. getD (set xs i v) f 0) i low (λ j k ne. omega (arith, getD-set-other xs i j v 0 ne)),
     )
 
-pub sum-set : (xs : List ℕ) (i v : ℕ) → i < mostFlows → i < length xs → sumOf (set xs i v) + getD xs i 0 ≡ sumOf xs + v
-unfolding sumOf
+pub sum-set : (xs : List ℕ) (i v : ℕ) → i < mostFlows → i < length xs → overFlows (set xs i v) + getD xs i 0 ≡ overFlows xs + v
+unfolding overFlows
 sum-set = total-set mostFlows
 
-pub sum-most : (xs : List ℕ) (b : ℕ) → ((f : ℕ) → f < mostFlows → getD xs f 0 ≤ b) → sumOf xs ≤ mostFlows * b
-unfolding sumOf
+pub sum-most : (xs : List ℕ) (b : ℕ) → ((f : ℕ) → f < mostFlows → getD xs f 0 ≤ b) → overFlows xs ≤ mostFlows * b
+unfolding overFlows
 sum-most xs b = total-most mostFlows (λ f. getD xs f 0) b
 
-pub sum-at : (xs : List ℕ) (f : ℕ) → f < mostFlows → getD xs f 0 ≤ sumOf xs
-unfolding sumOf
+pub sum-at : (xs : List ℕ) (f : ℕ) → f < mostFlows → getD xs f 0 ≤ overFlows xs
+unfolding overFlows
 sum-at xs = total-at mostFlows (λ f. getD xs f 0)
 
-pub sum-none : (xs : List ℕ) → ((f : ℕ) → f < mostFlows → getD xs f 0 ≡ 0) → sumOf xs ≡ 0
+pub sum-none : (xs : List ℕ) → ((f : ℕ) → f < mostFlows → getD xs f 0 ≡ 0) → overFlows xs ≡ 0
 sum-none xs h = omega (arith, sum-most xs 0 (λ f low. omega (arith, h f low)))

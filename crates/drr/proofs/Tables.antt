@@ -37,6 +37,7 @@ fresh-sound {T} r = record {
     maxima-length = r .maxima-length;
     deficits-length = refl;
     counts-length = refl;
+    sums-length = refl;
     rows-length = refl;
     row-length = λ f low. ap length (empty-row f low);
   };
@@ -53,6 +54,7 @@ fresh-sound {T} r = record {
     unused = λ l. let z = r .unused-zero f l in record { no-quantum = z .0; no-maximum = z .1; no-deficit = refl; no-count = refl };
     waiting = λ k x y. absurd (omega arith);
     rest = λ k x y. zero-at 32 k;
+    true-sum = refl;
   });
 }
 

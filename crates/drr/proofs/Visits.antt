@@ -12,7 +12,7 @@ use Rattle.drr.specs.State.{Line, quantumOf, deficitOf, waitingOf, oldes
 use Rattle.drr.specs.Facts.{Sound}
 use Rattle.drr.specs.Pick.{next, openAt}
 use Rattle.drr.proofs.Bools.{same?, below?}
-use Rattle.drr.proofs.Sums.{sumOf, sum-set, sum-most}
+use Rattle.drr.proofs.Sums.{overFlows, sum-set, sum-most}
 use Rattle.drr.proofs.Steps.{found-in}
 
 module _ (T : Table) (l : Line) (ok : Sound T l) where
@@ -37,10 +37,10 @@ module _ (T : Table) (l : Line) (ok : Sound T l) where
         unvisited : (l .opened && eqb (l .place) f) ≡ false
         unvisited = ap (λ (b : Bool). b && eqb (l .place) f) off
 
-    pub sum-low : sumOf (l .deficits) ≤ mostMaxima
+    pub sum-low : overFlows (l .deficits) ≤ mostMaxima
     sum-low = sum-most (l .deficits) mostMaximum deficit-most
 
-  pub grows : (f : ℕ) → next T l ≡ At f → sumOf (l .deficits) + 1 ≤ sumOf (openAt T l f .deficits)
+  pub grows : (f : ℕ) → next T l ≡ At f → overFlows (l .deficits) + 1 ≤ overFlows (openAt T l f .deficits)
   grows f at =
       let in-table = found-in T l f at .0 in
       let low : f < mostFlows = omega (arith, ok .flows-few) in

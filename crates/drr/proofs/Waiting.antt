@@ -18,14 +18,14 @@ use Rattle.drr.specs.Pick.Picks.{goes-on, closes, starts}
 use Rattle.drr.specs.Computed.{pickOf}
 use Rattle.drr.proofs.Bools.{below?}
 use Rattle.drr.proofs.Steps.{low, found-in, visit-passes, place-in, on-ends}
-use Rattle.drr.proofs.Sums.{sumOf, sum-set, sum-none}
+use Rattle.drr.proofs.Sums.{overFlows, sum-set, sum-none}
 use Rattle.drr.proofs.Visits.{charge-most}
 use Rattle.drr.proofs.Tables.{zero-at}
 use Rattle.drr.proofs.One.{pick-is}
 use Rattle.drr.proofs.Round.{search-none}
 
 abbrev pub waitingAll : Line → ℕ
-waitingAll l = sumOf (l .counts)
+waitingAll l = overFlows (l .counts)
 
 pub fresh-waits : (n : ℕ) → waitingAll (freshLine n) ≡ 0
 fresh-waits n = sum-none (replicate 16 0) (λ f _. zero-at 16 f)

@@ -5,11 +5,12 @@ use mathlib.Core.Path.{_≡_}
 use mathlib.Core.List.{List}
 use mathlib.Core.Bool.{Bool, true, false}
 use mathlib.Core.Logic.{_⊎_}
-use lib.ListN.{length, getD}
+use lib.ListN.{length, getD, take}
 use Rattle.drr.specs.declared.Table.{Table}
 use Rattle.drr.specs.declared.State.{State}
 use Rattle.drr.specs.Limits.{mostFlows, leastQuantum, mostQuantum, leastMaximum, mostMaximum, mostWaiting}
-use Rattle.drr.specs.State.{Line, quantumOf, maximumOf, deficitOf, waitingOf, rowOf, lengthsIn, charge, lineIn}
+use Rattle.drr.specs.State.{Line, quantumOf, maximumOf, deficitOf, waitingOf, sumOf, rowOf, lengthsIn, bytesOf}
+use Rattle.drr.specs.State.{charge, lineIn}
 use Rattle.drr.specs.Sound.{visited}
 
 -- "a flow without an open visit has deficit 0 if empty, otherwise a deficit below its oldest length; the flow with the open visit
@@ -35,15 +36,16 @@ pub record Unused (quantum maximum deficit count : ℕ) : Type 0 where
   pub no-count : count ≡ 0
 
 -- flow f, by the numbers and the row that the line has of it
-pub record FlowFacts (T : Table) (f : ℕ) (visited : Bool) (deficit count : ℕ) (lengths : List ℕ) : Type 0 where
+pub record FlowFacts (T : Table) (f : ℕ) (visited : Bool) (deficit count sum : ℕ) (lengths : List ℕ) : Type 0 where
   pub used : f < T .n → InUse (quantumOf T f) (maximumOf T f) count
   pub credit : f < T .n → Credit visited deficit (quantumOf T f) count (charge (getD lengths 0 0))
   pub unused : T .n ≤ f → Unused (quantumOf T f) (maximumOf T f) deficit count
   pub waiting : (k : ℕ) → k < mostWaiting → k < count → (1 ≤ getD lengths k 0) × (getD lengths k 0 ≤ maximumOf T f)
   pub rest : (k : ℕ) → k < mostWaiting → count ≤ k → getD lengths k 0 ≡ 0
+  pub true-sum : sum ≡ bytesOf (take count lengths)
 
 abbrev pub Flow : Table → Line → ℕ → Type 0
-Flow T l f = FlowFacts T f (visited l f) (deficitOf l f) (waitingOf l f) (rowOf l f)
+Flow T l f = FlowFacts T f (visited l f) (deficitOf l f) (waitingOf l f) (sumOf l f) (rowOf l f)
 
 -- a table within setup's limits
 pub record Ranged (T : Table) : Type 0 where
@@ -60,6 +62,7 @@ pub record Shaped (T : Table) (l : Line) : Type 0 where
   pub maxima-length : length (T .maxima) ≡ 16
   pub deficits-length : length (l .deficits) ≡ 16
   pub counts-length : length (l .counts) ≡ 16
+  pub sums-length : length (l .sums) ≡ 16
   pub rows-length : length (l .rows) ≡ 16
   pub row-length : (f : ℕ) → f < 16 → length (rowOf l f) ≡ 32
 

@@ -27,6 +27,11 @@ abbrev pub afterCalls : State → List Call → State
 afterCalls s [] = s
 afterCalls s (c ∷ cs) = afterCalls (replyTo s c .state) cs
 
+-- what the calls answer
+abbrev pub answersTo : State → List Call → List Answer
+answersTo s [] = []
+answersTo s (c ∷ cs) = replyTo s c .answer ∷ answersTo (replyTo s c .state) cs
+
 -- the same calls on a sound line
 abbrev pub callOf : Table → Line → Call → Outcome
 callOf T l (arrives flow length) = arrivalOf T l flow length

@@ -1,5 +1,5 @@
 -- Document 01 as definitions, in its order. Facts.antt has soundness once more, as facts. Paper.antt has
--- document 000's listing.
+-- document 000's listing, Account.antt the account of request E1.
 pub mod Limits
 pub mod State
 pub mod Sound
@@ -11,4 +11,5 @@ pub mod Computed
 pub mod Setup
 pub mod Figures
 pub mod Floor
+pub mod Account
 pub mod Paper

@@ -34,3 +34,7 @@ mostQuanta = mostFlows * mostQuantum
 
 abbrev pub mostMaxima : ℕ
 mostMaxima = mostFlows * mostMaximum
+
+-- all that waits in one flow
+abbrev pub mostBytes : ℕ
+mostBytes = mostWaiting * mostMaximum

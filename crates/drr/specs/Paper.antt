@@ -11,7 +11,7 @@ use Rattle.drr.specs.State.{Line, quantumOf, charge, shiftedOf, spotAt, 
 use Rattle.drr.specs.Answers.{Answer, idle, sentAs}
 use Rattle.drr.specs.Arrival.{arrivalOf}
 use Rattle.drr.specs.Pick.{after}
-use Rattle.drr.specs.Floor.{Call, arrives, picks, replyTo}
+use Rattle.drr.specs.Floor.{Call, arrives, picks}
 
 -- "Data: Per flow deficit: DC[1..n]", and the queues; empty(i) is that the count is 0
 pub record Memory : Type 0 where
@@ -117,9 +117,9 @@ memoryIn s = memoryOf (lineIn (s .line))
 abbrev pub pointIn : State → Point
 pointIn s = pointOf (s .table) (lineIn (s .line))
 
--- 01's arrival at the queues; it reads neither place nor visit
+-- 01's arrival at the queues: neither its answer nor the queues after it depend on place, visit or sums
 abbrev pub queues : Memory → Line
-queues m = lineOf (m .counts) (m .deficits) (m .rows) (spotAt 0 false)
+queues m = lineOf (m .counts) (replicate 16 0) (m .deficits) (m .rows) (spotAt 0 false)
 
 -- 01 books when the line is free: packets come where the listing has not begun, has sent one, or is idle
 pub data Serves (T : Table) (r : Reading) : Point → Memory → List Call → List Answer → Point → Memory → Type 0 where
@@ -129,8 +129,3 @@ pub data Serves (T : Table) (r : Reading) : Point → Memory → List Call → L
       Serves T r p m (arrives f x ∷ cs) (arrivalOf T (queues m) f x .answer ∷ answers) q t
   runs : {p o q : Point} {m w t : Memory} {cs : List Call} {a : Answer} {answers : List Answer} →
       Runs T r 0 (T .n) p m a o w → Serves T r o w cs answers q t → Serves T r p m (picks ∷ cs) (a ∷ answers) q t
-
--- what the public calls answer
-abbrev pub answersTo : State → List Call → List Answer
-answersTo s [] = []
-answersTo s (c ∷ cs) = replyTo s c .answer ∷ answersTo (replyTo s c .state) cs

@@ -9,7 +9,7 @@ use Rattle.drr.specs.declared.Table.{Table}
 use Rattle.drr.specs.declared.Found.{Found}
 use Rattle.drr.specs.declared.Found.the-variants.{At, Nothing}
 use Rattle.drr.specs.State.{Line, quantumOf, deficitOf, waitingOf, rowOf, oldest, oldestCharge, withDeficit, withRow, withVisit}
-use Rattle.drr.specs.State.{shiftedOf}
+use Rattle.drr.specs.State.{sumOf, shiftedOf}
 use Rattle.drr.specs.Answers.{Answer, idle, sentAs}
 
 -- the flow after f, round a table of n
@@ -38,9 +38,10 @@ closed l = withVisit l (l .place) false
 abbrev pub emptied : Line → Line
 emptied l = withDeficit l (l .place) (cond (ltb 0 (waitingOf l (l .place))) (deficitOf l (l .place)) 0)
 
--- "Sending takes the oldest length off the row and subtracts it from the deficit. The visit stays open."
+-- "Sending takes the oldest length off the row and subtracts it from the deficit. The visit stays open." E1: and from the sum.
 abbrev pub sent : Line → ℕ → Line
-sent l f = withRow (withDeficit l f (deficitOf l f - oldestCharge l f)) f (waitingOf l f - 1) (shiftedOf (rowOf l f))
+sent l f =
+    withRow (withDeficit l f (deficitOf l f - oldestCharge l f)) f (waitingOf l f - 1) (sumOf l f - oldest l f) (shiftedOf (rowOf l f))
 
 -- steps 2 and 3, where v visits have been opened so far in this pick
 pub data Looks (T : Table) : ℕ → Line → Answer → Line → Type 0 where

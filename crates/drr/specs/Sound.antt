@@ -6,7 +6,8 @@ use lib.ListN.{getD}
 use Rattle.drr.specs.declared.Table.{Table}
 use Rattle.drr.specs.declared.State.{State}
 use Rattle.drr.specs.Limits.{mostFlows, leastQuantum, mostQuantum, leastMaximum, mostMaximum, mostWaiting}
-use Rattle.drr.specs.State.{Line, quantumOf, maximumOf, deficitOf, waitingOf, rowOf, oldest, charge, lineIn}
+use Rattle.drr.specs.State.{Line, quantumOf, maximumOf, deficitOf, waitingOf, sumOf, rowOf, bytesWaiting}
+use Rattle.drr.specs.State.{oldest, charge, lineIn}
 
 -- the test p passes at each number below k
 unfoldable pub all : ℕ → (ℕ → Bool) → Bool
@@ -60,10 +61,14 @@ visited l f = l .opened && eqb (l .place) f
 unfoldable pub cellsb : Table → Line → ℕ → ℕ → Bool
 cellsb T l f k = cellb k (waitingOf l f) (maximumOf T f) (getD (rowOf l f) k 0)
 
+-- E1: "each flow's sum .. a state where it is false is not sound"
+abbrev pub sumb : Line → ℕ → Bool
+sumb l f = eqb (sumOf l f) (bytesWaiting l f)
+
 unfoldable pub flowb : Table → Line → ℕ → Bool
 flowb T l f =
     numbersb (ltb f (T .n)) (visited l f) (quantumOf T f) (maximumOf T f) (deficitOf l f) (waitingOf l f) (oldest l f)
-    && all mostWaiting (cellsb T l f)
+    && all mostWaiting (cellsb T l f) && sumb l f
 
 unfoldable pub soundb : Table → Line → Bool
 soundb T l = headb (T .n) (l .place) (l .opened) && all mostFlows (flowb T l)

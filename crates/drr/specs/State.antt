@@ -21,10 +21,11 @@ abbrev pub tableOf : Common → List ℕ → List ℕ → Table
 tableOf c quanta maxima = record { n = c .n; quanta = quanta; maxima = maxima }
 
 -- "one deficit and one waiting count per flow, the place (flow visited last), whether its visit is open, and the waiting lengths as
--- sixteen rows of thirty-two, oldest first": the line, which calls move
+-- sixteen rows of thirty-two, oldest first"; E1: "Keep each flow's sum in the state". The line, which calls move
 pub record Line : Type 0 where
   pub deficits : List ℕ
   pub counts : List ℕ
+  pub sums : List ℕ
   pub rows : List (List ℕ)
   pub place : ℕ
   pub opened : Bool
@@ -34,9 +35,9 @@ abbrev pub spotAt : ℕ → Bool → Spot
 spotAt place opened = record { place = place; opened = opened }
 
 -- the line that stands in arrays
-abbrev pub lineOf : List ℕ → List ℕ → List (List ℕ) → Spot → Line
-lineOf counts deficits rows spot =
-    record { deficits = deficits; counts = counts; rows = rows; place = spot .place; opened = spot .opened }
+abbrev pub lineOf : List ℕ → List ℕ → List ℕ → List (List ℕ) → Spot → Line
+lineOf counts sums deficits rows spot =
+    record { deficits = deficits; counts = counts; sums = sums; rows = rows; place = spot .place; opened = spot .opened }
 
 -- ---- reading: flow f's numbers
 abbrev pub quantumOf : Table → ℕ → ℕ
@@ -62,6 +63,19 @@ oldest l f = getD (rowOf l f) 0 0
 abbrev pub lengthsIn : Line → ℕ → List ℕ
 lengthsIn l f = take (waitingOf l f) (rowOf l f)
 
+-- the sum that the state keeps for flow f
+abbrev pub sumOf : Line → ℕ → ℕ
+sumOf l f = getD (l .sums) f 0
+
+-- the bytes of packets of these lengths
+abbrev pub bytesOf : List ℕ → ℕ
+bytesOf [] = 0
+bytesOf (length ∷ more) = length + bytesOf more
+
+-- "how many bytes wait in a flow": the sum of the lengths that wait in flow f
+abbrev pub bytesWaiting : Line → ℕ → ℕ
+bytesWaiting l f = bytesOf (lengthsIn l f)
+
 -- "A packet's charge is its length in bytes as the arrival gives it."
 abbrev pub charge : ℕ → ℕ
 charge length = length
@@ -73,13 +87,14 @@ oldestCharge l f = charge (oldest l f)
 -- ---- writing: every change of a line is made of these three
 abbrev pub withDeficit : Line → ℕ → ℕ → Line
 withDeficit l f d =
-    record { deficits = set (l .deficits) f d; counts = l .counts; rows = l .rows; place = l .place; opened = l .opened }
+    record { deficits = set (l .deficits) f d; counts = l .counts; sums = l .sums; rows = l .rows; place = l .place; opened = l .opened }
 
-abbrev pub withRow : Line → ℕ → ℕ → List ℕ → Line
-withRow l f count lengths =
+abbrev pub withRow : Line → ℕ → ℕ → ℕ → List ℕ → Line
+withRow l f count sum lengths =
     record {
       deficits = l .deficits;
       counts = set (l .counts) f count;
+      sums = set (l .sums) f sum;
       rows = set (l .rows) f lengths;
       place = l .place;
       opened = l .opened;
@@ -87,7 +102,7 @@ withRow l f count lengths =
 
 abbrev pub withVisit : Line → ℕ → Bool → Line
 withVisit l f opened =
-    record { deficits = l .deficits; counts = l .counts; rows = l .rows; place = f; opened = opened }
+    record { deficits = l .deficits; counts = l .counts; sums = l .sums; rows = l .rows; place = f; opened = opened }
 
 -- a row without its oldest length; "unused cells .. are zero", so the freed one is
 abbrev pub shiftedOf : List ℕ → List ℕ
@@ -96,7 +111,14 @@ shiftedOf lengths = drop 1 lengths ++ 0 ∷ []
 -- ---- "Fresh: nothing waits, deficits 0, no visit open, place n-1."
 abbrev pub freshLine : ℕ → Line
 freshLine n =
-    record { deficits = replicate 16 0; counts = replicate 16 0; rows = replicate 16 (replicate 32 0); place = n - 1; opened = false }
+    record {
+      deficits = replicate 16 0;
+      counts = replicate 16 0;
+      sums = replicate 16 0;
+      rows = replicate 16 (replicate 32 0);
+      place = n - 1;
+      opened = false;
+    }
 
 abbrev pub noFlows : Table
 noFlows = tableOf (common 0) (replicate 16 0) (replicate 16 0)
@@ -117,12 +139,19 @@ rowsFrom cells = map rowFrom cells
 
 abbrev pub lineIn : StoredLine → Line
 lineIn s =
-    record { deficits = s .deficits; counts = s .counts; rows = cellsIn (s .rows); place = s .place; opened = s .opened }
+    record { deficits = s .deficits; counts = s .counts; sums = s .sums; rows = cellsIn (s .rows); place = s .place; opened = s .opened }
 
 abbrev pub stateFrom : Table → Line → State
 stateFrom T l = record {
   table = T;
-  line = record { deficits = l .deficits; counts = l .counts; place = l .place; opened = l .opened; rows = rowsFrom (l .rows) };
+  line = record {
+    deficits = l .deficits;
+    counts = l .counts;
+    sums = l .sums;
+    place = l .place;
+    opened = l .opened;
+    rows = rowsFrom (l .rows);
+  };
 }
 
 abbrev pub freshState : Table → State

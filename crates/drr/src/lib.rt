@@ -57,11 +57,12 @@ pub struct Row {
     pub lengths: [u16; 32],
 }
 
-// What arrivals and picks move.
+// What arrivals and picks move. A flow's sum is that of its waiting lengths.
 #[repr(C)]
 pub struct Line {
     pub deficits: [u32; 16],
     pub counts: [u8; 16],
+    pub sums: [u32; 16],
     pub place: usize,
     pub opened: bool,
     pub rows: [Row; 16],

@@ -18,15 +18,15 @@ use Rattle.drr.specs.Answers.{idle, outcome}
 use Rattle.drr.specs.Pick.{next, openAt, closed, emptied, Ready}
 use Rattle.drr.specs.Computed.{sending, serve, turn, look, carryOn, readyb, pickAt, pickOf}
 use Rattle.engine.specs.Needs.{Bookable, Sendable}
-use Rattle.drr.proofs.Steps.{low, found-in, grown, visit-passes, place-in, on-ends}
-use Rattle.drr.proofs.Sums.{sumOf}
+use Rattle.drr.proofs.Steps.{low, found-in, grown, visit-passes, place-in, on-ends, oldest-held, sum-most}
+use Rattle.drr.proofs.Sums.{overFlows}
 use Rattle.drr.proofs.Visits.{deficit-most, sum-low, grows}
 use Rattle.drr.proofs.One.{look-unfolds}
 
 -- the loop of visits, from the line s to the line t with v visits opened
 pub record Along (T : Table) (s t : Line) (v : ℕ) : Type 0 where
   pub sound : Sound T t
-  pub count : v ≤ sumOf (t .deficits)
+  pub count : v ≤ overFlows (t .deficits)
   pub same : look T 0 s ≡ look T v t
 
 pub along-first : {T : Table} {s : Line} → Sound T s → Along T s s 0
@@ -58,6 +58,7 @@ module _ (T : Table) (s t : Line) (v : ℕ) (h : Along T s t v) (off : t .opened
       flow = flow-low;
       waits = flow .1;
       enough = rw opened-is enough;
+      held = oldest-held T t (h .sound) f (flow .0) (flow .1);
     }
 
     opens : look T v t ≡ serve (leb (oldestCharge t f) (deficitOf (openAt T t f) f)) (v + 1) (openAt T t f) f (look T (v + 1))
@@ -79,12 +80,12 @@ module _ (T : Table) (s t : Line) (v : ℕ) (h : Along T s t v) (off : t .opened
         same = h .same ∙ opens ∙ ap (λ (b : Bool). serve b (v + 1) (openAt T t f) f (look T (v + 1))) (lt-leb _ _ short');
       }
 
-      pub along-falls : mostMaxima - sumOf (set (t .deficits) f (deficitOf t f + quantumOf T f)) < mostMaxima - sumOf (t .deficits)
+      pub along-falls : mostMaxima - overFlows (set (t .deficits) f (deficitOf t f + quantumOf T f)) < mostMaxima - overFlows (t .deficits)
       along-falls = omega (arith, grows T t (h .sound) f at, sum-low T (closed (openAt T t f)) (along-on .sound) refl)
 
 -- ---- step 1: l with these deficits, and no visit open
 abbrev ended : Line → List ℕ → Line
-ended l ds = record { deficits = ds; counts = l .counts; rows = l .rows; place = l .place; opened = false }
+ended l ds = record { deficits = ds; counts = l .counts; sums = l .sums; rows = l .rows; place = l .place; opened = false }
 
 -- steps 2 and 3 from there are what is left of the pick
 pub record Ends (T : Table) (l : Line) (ds : List ℕ) : Type 0 where
@@ -99,14 +100,14 @@ module _ (T : Table) (l : Line) (ok : Sound T l) where
   })
     where
       shut : ended l (l .deficits) ≡ l
-      shut = λ i. record { deficits = l .deficits; counts = l .counts; rows = l .rows; place = l .place; opened = sym off i }
+      shut = λ i. withVisit l (l .place) (sym off i)
 
   module _ (on : l .opened ≡ true) where
     abbrev p : ℕ
     p = l .place
 
     is-open : withVisit l p true ≡ l
-    is-open = λ i. record { deficits = l .deficits; counts = l .counts; rows = l .rows; place = l .place; opened = sym on i }
+    is-open = λ i. withVisit l p (sym on i)
 
     stops : readyb l p ≡ false → (Ready l p → ⊥) → (ds : List ℕ) → ds ≡ emptied l .deficits → Ends T l ds
     stops nay stuck ds is = rw is (record {
@@ -124,7 +125,13 @@ module _ (T : Table) (l : Line) (ok : Sound T l) where
 
     module _ (w : 0 < waitingOf l p) (enough : oldestCharge l p ≤ deficitOf l p) where
       pub ready : Sendable (withVisit l p true) p
-      ready = record { size = ok .shape .deficits-length; flow = low T l ok p (place-in T l ok on); waits = w; enough = enough }
+      ready = record {
+        size = ok .shape .deficits-length;
+        flow = low T l ok p (place-in T l ok on);
+        waits = w;
+        enough = enough;
+        held = oldest-held T l ok p (place-in T l ok on) w;
+      }
 
       able : readyb l p ≡ true
       able = rw (lt-ltb 0 (waitingOf l p) w, le-leb (oldestCharge l p) (deficitOf l p) enough)
@@ -135,8 +142,9 @@ module _ (T : Table) (l : Line) (ok : Sound T l) where
           ∙ sym (ap (λ (b : Bool). pickAt T b l) on ∙ ap (λ (b : Bool). carryOn T b l) able)
 
 -- ---- what a booking asks
-pub sound-bookable : {T : Table} {l : Line} → Sound T l → Bookable (commonIn T) (T .maxima)
-sound-bookable ok = record {
+pub sound-bookable : {T : Table} {l : Line} → Sound T l → Bookable (commonIn T) (T .maxima) (l .sums)
+sound-bookable {T} {l} ok = record {
   flows-few = ok .flows-few;
   maxima-most = λ f q. ok .flows f (omega (arith, ok .flows-few)) .used q .maximum-most;
+  sums-most = λ f q. sum-most T l ok f q;
 }

@@ -1,13 +1,25 @@
 -- The soundness test put together from its parts, as the code takes them.
-use Prim.Native.Nat.{ℕ, _<_}
-use mathlib.Core.Path.{_≡_, sym}
-use mathlib.Core.Bool.{Bool, true, false, and-false}
+use Prim.Native.Nat.{ℕ, _+_, _<_}
+use mathlib.Core.Path.{_≡_, sym, _∙_}
+use mathlib.Core.List.{List}
+use mathlib.Core.Bool.{Bool, true, false, _&&_, and-false}
+use native.Mathlib.Omega.{arith}
+use borrow.Author.Tests.{eq-eqb, ne-eqb}
 use lib.Dec.{ltb}
+use lib.ListN.{getD, take}
 use Rattle.drr.specs.declared.Table.{Table}
 use Rattle.drr.specs.Limits.{mostFlows, mostWaiting}
-use Rattle.drr.specs.State.{Line, quantumOf, maximumOf, deficitOf, waitingOf, oldest}
+use Rattle.drr.specs.State.{Line, quantumOf, maximumOf, deficitOf, waitingOf, sumOf, rowOf, oldest, bytesOf}
+use Rattle.drr.specs.State.{bytesWaiting}
 use Rattle.drr.specs.Sound.{all, headb, numbersb, visited, cellsb, flowb, soundb}
 use Rattle.drr.proofs.Bools.{all-fault}
+use Rattle.drr.proofs.Facts.{row-bytes}
+use Rattle.drr.proofs.Lengths.{bytes-next}
+
+-- one cell more of what is added up
+pub bytes-on : (row : List ℕ) (k : ℕ) {bytes next : ℕ} → bytes ≡ bytesOf (take k row) → next ≡ bytes + getD row k 0 →
+    next ≡ bytesOf (take (k + 1) row)
+bytes-on row k so-far more = omega (arith, so-far, more, bytes-next row k)
 
 module _ (T : Table) (l : Line) where
   -- the numbers of flow f
@@ -33,8 +45,17 @@ module _ (T : Table) (l : Line) where
 
   pub cell-fault : (f k : ℕ) → k < mostWaiting → cellsb T l f k ≡ false → flowb T l f ≡ false
   unfolding flowb
-  cell-fault f k low e = rw (all-fault mostWaiting k (cellsb T l f) low e) (and-false (numbersOf f))
+  cell-fault f k low e = rw (all-fault mostWaiting k (cellsb T l f) low e, and-false (numbersOf f))
 
-  pub flow-good : (f : ℕ) → numbersOf f ≡ true → all mostWaiting (cellsb T l f) ≡ true → flowb T l f ≡ true
-  unfolding flowb
-  flow-good f h a = rw h a
+  -- what was added up over the cells, beside the sum
+  module _ (f : ℕ) (h : numbersOf f ≡ true) (a : all mostWaiting (cellsb T l f) ≡ true) (bytes : ℕ)
+      (is : bytes ≡ bytesOf (take mostWaiting (rowOf l f))) where
+    pub sum-fault : (bytes ≡ sumOf l f → ⊥) → flowb T l f ≡ false
+    unfolding flowb
+    sum-fault ne =
+        rw (ne-eqb (sumOf l f) (bytesWaiting l f) (λ e. ne (is ∙ row-bytes T l f h a ∙ sym e)))
+        (and-false (numbersOf f && all mostWaiting (cellsb T l f)))
+
+    pub flow-good : bytes ≡ sumOf l f → flowb T l f ≡ true
+    unfolding flowb
+    flow-good e = rw (h, a) (eq-eqb (sumOf l f) (bytesWaiting l f) (sym e ∙ is ∙ row-bytes T l f h a))

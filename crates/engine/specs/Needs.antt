@@ -4,17 +4,19 @@ use mathlib.Core.List.{List}
 use Prim.Native.Nat.{ℕ, _≤_, _<_}
 use lib.ListN.{length, getD}
 use Rattle.drr.specs.declared.Common.{Common}
-use Rattle.drr.specs.Limits.{mostFlows, mostMaximum}
-use Rattle.drr.specs.State.{Line, deficitOf, waitingOf, oldestCharge}
+use Rattle.drr.specs.Limits.{mostFlows, mostMaximum, mostBytes}
+use Rattle.drr.specs.State.{Line, deficitOf, waitingOf, sumOf, oldest, oldestCharge}
 
--- of a table that is booked into: its maxima fit a cell
-pub record Bookable (c : Common) (maxima : List ℕ) : Type 0 where
+-- of what is booked into: its maxima fit a cell, and its sums have room for one length more
+pub record Bookable (c : Common) (maxima sums : List ℕ) : Type 0 where
   pub flows-few : c .n ≤ mostFlows
   pub maxima-most : (f : ℕ) → f < c .n → getD maxima f 0 ≤ mostMaximum
+  pub sums-most : (f : ℕ) → f < c .n → getD sums f 0 ≤ mostBytes
 
--- of a flow that sends: a packet waits, and its charge is at most the deficit
+-- of a flow that sends: a packet waits, its charge is at most the deficit, and the sum has its length
 pub record Sendable (l : Line) (f : ℕ) : Type 0 where
   pub size : length (l .deficits) ≡ 16
   pub flow : f < mostFlows
   pub waits : 0 < waitingOf l f
   pub enough : oldestCharge l f ≤ deficitOf l f
+  pub held : oldest l f ≤ sumOf l f

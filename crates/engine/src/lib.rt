@@ -2,7 +2,7 @@
 // arrival, and the pick. The public functions lend a State's parts to it, a run its own arrays.
 //
 // The arrays are those of a table (quanta, maxima, and its other numbers in `common`) and of a line (counts,
-// deficits, rows, and the place with its visit in `spot`). The contracts speak of them as `tableOf ..` and
+// sums, deficits, rows, and the place with its visit in `spot`). The contracts speak of them as `tableOf ..` and
 // `lineOf ..`.
 use drr::ArrivalAnswer;
 use drr::Common;
@@ -79,21 +79,25 @@ fn shifted(row: [u16; 32]) -> [u16; 32]
 // The oldest packet of flow f is sent, in its open visit.
 fn send(
     counts: &mut [u8; 16],
+    sums: &mut [u32; 16],
     deficits: &mut [u32; 16],
     rows: &mut [[u16; 32]; 16],
     f: usize,
     visits: u32,
 ) -> Picking
-    requires { ⌜ Sendable (lineOf (now counts) (now deficits) (now rows) (spotAt f true)) f ⌝ }
+    requires { ⌜ Sendable (lineOf (now counts) (now sums) (now deficits) (now rows) (spotAt f true)) f ⌝ }
     ensures { λ r. ⌜
-        outcome (pickPaper (r .answer)) (lineOf (now (counts .exit)) (now (deficits .exit)) (now (rows .exit)) (r .spot))
-        ≡ sending (lineOf (now (counts .entry)) (now (deficits .entry)) (now (rows .entry)) (spotAt f true)) f visits ⌝ }
+        outcome (pickPaper (r .answer))
+        (lineOf (now (counts .exit)) (now (sums .exit)) (now (deficits .exit)) (now (rows .exit)) (r .spot))
+        ≡ sending
+        (lineOf (now (counts .entry)) (now (sums .entry)) (now (deficits .entry)) (now (rows .entry)) (spotAt f true)) f visits ⌝ }
 {
     let row = rows[f];
     let length = row[0];
     let d = deficits[f] - charge_of(length);
     deficits[f] = d;
     counts[f] = counts[f] - 1;
+    sums[f] = sums[f] - length as u32;
     let rest = shifted(row);
     rows[f] = rest;
     Picking {
@@ -112,15 +116,19 @@ fn look(
     quanta: &[u32; 16],
     maxima: &[u32; 16],
     counts: &mut [u8; 16],
+    sums: &mut [u32; 16],
     deficits: &mut [u32; 16],
     rows: &mut [[u16; 32]; 16],
     start: usize,
 ) -> Picking
-    requires { ⌜ Sound (tableOf common (now quanta) (now maxima)) (lineOf (now counts) (now deficits) (now rows) (spotAt start false)) ⌝ }
+    requires { ⌜
+        Sound (tableOf common (now quanta) (now maxima))
+        (lineOf (now counts) (now sums) (now deficits) (now rows) (spotAt start false)) ⌝ }
     ensures { λ r. ⌜
-        outcome (pickPaper (r .answer)) (lineOf (now (counts .exit)) (now (deficits .exit)) (now (rows .exit)) (r .spot))
+        outcome (pickPaper (r .answer))
+        (lineOf (now (counts .exit)) (now (sums .exit)) (now (deficits .exit)) (now (rows .exit)) (r .spot))
         ≡ lookOf (tableOf common (now (quanta .entry)) (now (maxima .entry))) 0
-        (lineOf (now (counts .entry)) (now (deficits .entry)) (now (rows .entry)) (spotAt start false)) ⌝ }
+        (lineOf (now (counts .entry)) (now (sums .entry)) (now (deficits .entry)) (now (rows .entry)) (spotAt start false)) ⌝ }
 {
     let n = common.n;
     let mut place = start;
@@ -142,7 +150,7 @@ fn look(
         deficits[f] = d;
         place = f;
         if charge <= d {
-            return send(counts, deficits, rows, f, visits);
+            return send(counts, sums, deficits, rows, f, visits);
         }
     }
 }
@@ -153,27 +161,29 @@ pub fn pick_in(
     quanta: &[u32; 16],
     maxima: &[u32; 16],
     counts: &mut [u8; 16],
+    sums: &mut [u32; 16],
     deficits: &mut [u32; 16],
     rows: &mut [[u16; 32]; 16],
     spot: Spot,
 ) -> Picking
-    requires { ⌜ Sound (tableOf common (now quanta) (now maxima)) (lineOf (now counts) (now deficits) (now rows) spot) ⌝ }
+    requires { ⌜ Sound (tableOf common (now quanta) (now maxima)) (lineOf (now counts) (now sums) (now deficits) (now rows) spot) ⌝ }
     ensures { λ r. ⌜
-        outcome (pickPaper (r .answer)) (lineOf (now (counts .exit)) (now (deficits .exit)) (now (rows .exit)) (r .spot))
+        outcome (pickPaper (r .answer))
+        (lineOf (now (counts .exit)) (now (sums .exit)) (now (deficits .exit)) (now (rows .exit)) (r .spot))
         ≡ pickOf (tableOf common (now (quanta .entry)) (now (maxima .entry)))
-        (lineOf (now (counts .entry)) (now (deficits .entry)) (now (rows .entry)) spot) ⌝ }
+        (lineOf (now (counts .entry)) (now (sums .entry)) (now (deficits .entry)) (now (rows .entry)) spot) ⌝ }
 {
     let f = spot.place;
     if spot.opened {
         if 0 < counts[f] {
             if charge_of(rows[f][0]) <= deficits[f] {
-                return send(counts, deficits, rows, f, 0);
+                return send(counts, sums, deficits, rows, f, 0);
             }
         } else {
             deficits[f] = 0;
         }
     }
-    look(common, quanta, maxima, counts, deficits, rows, f)
+    look(common, quanta, maxima, counts, sums, deficits, rows, f)
 }
 
 // A packet of `length` bytes for `flow` is put at the end of its row, or refused by 1, 2, 3 or 4.
@@ -181,14 +191,15 @@ pub fn book(
     common: Common,
     maxima: &[u32; 16],
     counts: &mut [u8; 16],
+    sums: &mut [u32; 16],
     rows: &mut [[u16; 32]; 16],
     flow: usize,
     length: u32,
 ) -> ArrivalAnswer
-    requires { ⌜ Bookable common (now maxima) ⌝ }
+    requires { ⌜ Bookable common (now maxima) (now sums) ⌝ }
     ensures { λ r. ⌜
-        Booked common (now (maxima .entry)) (now (counts .entry)) (now (rows .entry)) flow length
-        (arrivalPaper r) (now (counts .exit)) (now (rows .exit)) ⌝ }
+        Booked common (now (maxima .entry)) (now (counts .entry)) (now (sums .entry)) (now (rows .entry)) flow length
+        (arrivalPaper r) (now (counts .exit)) (now (sums .exit)) (now (rows .exit)) ⌝ }
 {
     if common.n <= flow {
         return ArrivalAnswer::Refused(Refusal::UnknownFlow);
@@ -206,6 +217,7 @@ pub fn book(
     let k = c as usize;
     rows[flow][k] = length as u16;
     counts[flow] = c + 1;
+    sums[flow] = sums[flow] + length;
     ArrivalAnswer::Accepted
 }
 
@@ -246,19 +258,29 @@ fn cell_ok(k: usize, count: u8, maximum: u32, length: u16) -> bool
     (waits & ((1 <= length) & (length as u32 <= maximum))) | (!waits & (length == 0))
 }
 
-// Whether what the arrays hold is sound. Both loops are left at the first fault.
+// The bytes of one length more.
+fn with_length(bytes: u32, length: u16) -> u32
+    requires { ⌜ bytes ≤ 2097120 ⌝ }
+    ensures { λ r. ⌜ (r ≡ bytes + length) × (r ≤ bytes + 65535) ⌝ }
+{
+    bytes + length as u32
+}
+
+// Whether what the arrays hold is sound. Both loops are left at the first fault. The inner one adds up the
+// lengths as it goes: those behind the waiting ones are zero.
 pub fn sound_in(
     common: Common,
     quanta: &[u32; 16],
     maxima: &[u32; 16],
     counts: &[u8; 16],
+    sums: &[u32; 16],
     deficits: &[u32; 16],
     rows: &[[u16; 32]; 16],
     spot: Spot,
 ) -> bool
     ensures { λ r. ⌜
         r ≡ soundb (tableOf common (now (quanta .entry)) (now (maxima .entry)))
-        (lineOf (now (counts .entry)) (now (deficits .entry)) (now (rows .entry)) spot) ⌝ }
+        (lineOf (now (counts .entry)) (now (sums .entry)) (now (deficits .entry)) (now (rows .entry)) spot) ⌝ }
 {
     let n = common.n;
     let place = spot.place;
@@ -283,13 +305,20 @@ pub fn sound_in(
             ok = false;
             break 'flows;
         }
+        let mut bytes: u32 = 0;
         let mut k: usize = 0;
         while k < 32 {
-            if !cell_ok(k, count, maximum, rows[f][k]) {
+            let length = rows[f][k];
+            if !cell_ok(k, count, maximum, length) {
                 ok = false;
                 break 'flows;
             }
+            bytes = with_length(bytes, length);
             k += 1;
+        }
+        if bytes != sums[f] {
+            ok = false;
+            break 'flows;
         }
         f += 1;
     }

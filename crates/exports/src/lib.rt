@@ -16,7 +16,7 @@ ghost use Rattle.drr.specs.Answers.{answer, verdictPaper, pickPaper, arrivalPap
 ghost use Rattle.drr.specs.Setup.{setupReply, recordsIn};
 ghost use Rattle.drr.specs.Arrival.{arrivalReply};
 ghost use Rattle.drr.specs.Computed.{pickReply};
-ghost use Rattle.figures.specs.Answers.{figurePaper, owedAnswer, waitAnswer, lagAnswer};
+ghost use Rattle.figures.specs.Answers.{figurePaper, owedAnswer, waitAnswer, lagAnswer, waitingAnswer};
 ghost use Rattle.runfile.specs.File.{runAnswer};
 ghost use Rattle.runfile.specs.Listing.{filled};
 ghost use Rattle.exports.specs.Told.{setupTold, arrivalTold, pickTold, figureTold, runTold};
@@ -211,6 +211,15 @@ pub extern "C" fn wikulambag_lag(s: State, flow: usize) -> FigureResult
     ensures { λ r. ⌜ r ≡ figureTold (lagAnswer s flow) ⌝ }
 {
     let f = figures::lag(s, flow);
+    figure_told(f)
+}
+
+// How many bytes wait in the flow.
+#[no_mangle]
+pub extern "C" fn wikulambag_waiting_bytes(s: State, flow: usize) -> FigureResult
+    ensures { λ r. ⌜ r ≡ figureTold (waitingAnswer s flow) ⌝ }
+{
+    let f = figures::waiting_bytes(s, flow);
     figure_told(f)
 }
 

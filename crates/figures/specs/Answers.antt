@@ -9,6 +9,7 @@ use Rattle.drr.specs.Sound.{soundState}
 use Rattle.drr.specs.Answers.{numberOf, Answer, answer}
 use Rattle.drr.specs.State.{quantumOf, maximumOf}
 use Rattle.drr.specs.Figures.{lag, owed, wait}
+use Rattle.drr.specs.Account.{bytesWaitingIn}
 use Rattle.figures.specs.Time.{waitTime}
 use Rattle.figures.specs.declared.Figure.{Figure}
 use Rattle.figures.specs.declared.Figure.the-variants as figures
@@ -50,6 +51,10 @@ lagAnswer s flow = askedAnswer s flow (figureIs (lag (s .table) flow))
 -- the wait in time, asked as a figure
 abbrev pub timeAnswer : State → ℕ → ℕ → Answer
 timeAnswer s flow rate = askedAnswer s flow (figureIs (waitTime (s .table) flow rate))
+
+-- E1: "how many bytes wait in a flow": the sum of the lengths that wait there, asked as a figure
+abbrev pub waitingAnswer : State → ℕ → Answer
+waitingAnswer s flow = askedAnswer s flow (figureIs (bytesWaitingIn flow s))
 
 -- ---- all figures of a flow as a list of numbers, for `drrfigures`
 -- the value of an answer

@@ -1,5 +1,5 @@
 // Document 01's figures of a flow: what it is owed of S bytes, how long it waits for the first (in
-// bytes, and in time on a line of a given rate), and C.
+// bytes, and in time on a line of a given rate), and C; and how many bytes wait in it.
 //
 // The definitions are the least numbers that the document names (drr, specs/Figures.antt). The code
 // takes the way round by division, and the laws of drr, proofs/Figures.antt, say that it is the same.
@@ -17,7 +17,7 @@ ghost use Rattle.drr.specs.Limits.{mostFlows};
 ghost use Rattle.drr.specs.Facts.{SoundState};
 ghost use Rattle.drr.specs.Figures.{total, lag as lagOf, owed as owedOf, wait as waitOf};
 ghost use Rattle.figures.specs.Answers.{figurePaper, guardPaper, askedAnswer, owedAnswer, waitAnswer, lagAnswer, timeAnswer};
-ghost use Rattle.figures.specs.Answers.{valueOf, allFigures, figuresWithin};
+ghost use Rattle.figures.specs.Answers.{waitingAnswer, valueOf, allFigures, figuresWithin};
 ghost use Rattle.figures.specs.Needs.{Known, measuresOf, Limited, lagFrom};
 ghost use Rattle.figures.specs.Time.{waitTime};
 
@@ -210,6 +210,19 @@ pub fn lag(s: State, flow: usize) -> Figure
     Figure::Value(lag_in(table, flow))
 }
 
+// The bytes that wait in the flow. The line keeps their sum, which in a sound state is true.
+pub fn waiting_bytes(s: State, flow: usize) -> Figure
+    ensures { λ r. ⌜ figurePaper r ≡ waitingAnswer s flow ⌝ }
+{
+    let guard = asked(s, flow);
+    if let Guard::Refused(why) = guard {
+        return Figure::Refused(why);
+    }
+    let line = s.line;
+    let sums = line.sums;
+    Figure::Value(cell_at(sums, flow))
+}
+
 // The value of a figure, 0 beside a refusal.
 pub fn value_of(f: Figure) -> u64
     ensures { λ r. ⌜ r ≡ valueOf (figurePaper f) ⌝ }
@@ -220,7 +233,7 @@ pub fn value_of(f: Figure) -> u64
     }
 }
 
-// A cell of the table, 0 past its end.
+// A flow's number in an array, 0 past its end.
 fn cell_at(cells: [u32; 16], flow: usize) -> u64
     ensures { λ r. ⌜ r ≡ getD cells flow 0 ⌝ }
 {

@@ -1,5 +1,6 @@
 -- What is proved of the reader and of a file's run beside their contracts.
 use mathlib.Core.Path.{_≡_, refl, ap, _∙_}
+use mathlib.Core.Bool.{cond}
 use mathlib.Core.List.{List, [], _∷_, _++_}
 use Prim.Native.Nat.{ℕ, _+_, _*_, _≤_, _<_}
 use native.Mathlib.Omega.{arith}
@@ -19,18 +20,24 @@ use Rattle.drr.proofs.Demand3.{calls-keep, demand-3}
 use Rattle.runfile.specs.declared.turns.Tally.{Tally}
 use Rattle.runfile.specs.File.{eventCount, eventOffset, flowsIn, eventsIn, fileAnswer, runAnswer}
 use Rattle.runfile.specs.Run.{Act, free, Timed, bookedIn, callsIn, tableIn, runCalls}
-use Rattle.runfile.specs.Listing.{tally, tallyAfter, endLine, linesOf, ends, ticksOf, lastOf, acceptedTo, sentTo, runListing, filled}
+use Rattle.runfile.specs.Listing.{tally, tallyAfter, endLine, linesOf, ends, ticksOf, lastOf, acceptedTo, sentTo}
+use Rattle.runfile.specs.Listing.{runListing, runWaiting, filled, filledLines, filledBeside}
 use Rattle.runfile.proofs.Files.{file-setup, file-sorted}
 use Rattle.runfile.proofs.Going.{events-length}
 use Rattle.runfile.proofs.Runs.{run-timed, run-books, run-only, run-empties}
-use Rattle.runfile.proofs.Counts.{each-one, all-in-turn, listing-is, lines-length, ends-count, last-is}
+use Rattle.runfile.proofs.Counts.{each-one, all-in-turn, listing-is, lines-length, beside-each, ends-count, last-is}
 
--- a refused run leaves the lent list as it came
+-- a refused run leaves the lent list as it came, and so does one with two of them
+left-as : (n : ℕ) (v o : List ℕ) → (n ≡ 0 → ⊥) → cond (eqb n 0) v o ≡ o
+left-as n v o some = by-test (λ (x : List ℕ). x ≡ o) (eqb n 0) (λ e. absurd (some (eqb-true n 0 e))) (λ _. refl)
+
+pub refused-leaves-both : (b out beside : List ℕ) (room : ℕ) → (runAnswer b room .refusal ≡ 0 → ⊥) →
+    (filledLines room b out ≡ out) × (filledBeside room b beside ≡ beside)
+unfolding filledLines filledBeside
+refused-leaves-both b out beside room some = (left-as _ _ out some, left-as _ _ beside some)
+
 pub refused-leaves : (b out : List ℕ) → (runAnswer b (length out) .refusal ≡ 0 → ⊥) → filled b out ≡ out
-unfolding filled
-refused-leaves b out some =
-    by-test (λ (o : List ℕ). o ≡ out) (eqb (runAnswer b (length out) .refusal) 0)
-    (λ e. absurd (some (eqb-true (runAnswer b (length out) .refusal) 0 e))) (λ _. refl)
+refused-leaves b out some = refused-leaves-both b out out (length out) some .0
 
 -- ---- the run of a file that is not refused
 module _ (b : List ℕ) (ok : fileAnswer b .refusal ≡ 0) where
@@ -93,6 +100,16 @@ module _ (b : List ℕ) (ok : fileAnswer b .refusal ≡ 0) where
   file-length =
       ap length file-listing ∙ length-append (linesOf T (runCalls b) fresh) (endLine count)
       ∙ omega (arith, lines-length T (runCalls b) fresh (tally 0 0 0) (fresh-sound ranged), file-lines)
+
+  -- .. and beside each line but line 3 one number
+  pub file-beside : length (runWaiting b) ≡ eventCount b
+  file-beside =
+      omega (
+        arith,
+        beside-each T (runCalls b) fresh (fresh-sound ranged),
+        lines-length T (runCalls b) fresh (tally 0 0 0) (fresh-sound ranged),
+        file-lines,
+      )
 
   pub file-sent : count .sent ≡ length (ends T (runCalls b) fresh)
   file-sent = omega (arith, ends-count T (runCalls b) fresh (tally 0 0 0))

@@ -8,7 +8,7 @@ use borrow.Author.Tests.{eqb-true}
 use lib.Dec.{eqb}
 use lib.ListN.{length, take, length-append}
 use Rattle.drr.specs.declared.Table.{Table}
-use Rattle.drr.specs.State.{Line, waitingOf, rowOf, lengthsIn, charge, stateFrom}
+use Rattle.drr.specs.State.{Line, waitingOf, rowOf, lengthsIn, bytesWaiting, charge, stateFrom}
 use Rattle.drr.specs.Facts.{Sound}
 use Rattle.drr.specs.Answers.{Answer, lengthIn, reply}
 use Rattle.drr.specs.Arrival.{arrivalOf}
@@ -24,8 +24,8 @@ use Rattle.drr.proofs.Rows.{pick-takes, arrival-adds}
 use Rattle.runfile.specs.declared.turns.Tally.{Tally}
 use Rattle.runfile.specs.Run.{Act, comes, asks, outcomeOf, bookedIn, callIn, callsIn}
 use Rattle.runfile.specs.Listing.{tally, startLine, lineFor, afterEvent, afterPick, afterAct, tallyAfter, endLine, linesOf}
-use Rattle.runfile.specs.Listing.{listing, ends, ticksOf, lastOf, acceptedTo, sentTo}
-use Rattle.runfile.proofs.Going.{lines, arrival-waits}
+use Rattle.runfile.specs.Listing.{besideOf, besideAll, listing, ends, ticksOf, lastOf, acceptedTo, sentTo}
+use Rattle.runfile.proofs.Going.{lines, arrival-waits, event-counts, event-size}
 
 -- a call on the line is document 01's call on the state made of it
 pub act-is-call : (T : Table) (l : Line) → Sound T l → (k : Act) →
@@ -37,15 +37,6 @@ abbrev sentOne : ℕ → Answer → Tally → Tally
 sentOne t a y = tally (y .sent + 1) (y .refused) (t + charge (lengthIn a))
 
 -- ---- one call: its line, the count after it, and the packets that wait
-event-counts : (y : Tally) (b : Bool) → y .sent + cond b (y .refused) (y .refused + 1) + cond b 1 0 ≡ lines y + 1
-event-counts y true = omega arith
-event-counts y false = omega arith
-
-event-line : (y : Tally) (tick flow len r : ℕ) (b : Bool) →
-    length (cond b [] (2 ∷ tick ∷ flow ∷ len ∷ r ∷ 0 ∷ [])) + 6 * lines y ≡ 6 * (y .sent + cond b (y .refused) (y .refused + 1))
-event-line y tick flow len r true = omega arith
-event-line y tick flow len r false = omega arith
-
 pick-counts : (t : ℕ) (y : Tally) (l : Line) (a : Answer) (l' : Line) → PickedAs l a l' →
     lines (afterPick t a y) + waitingAll l' ≡ lines y + waitingAll l
 pick-counts t y l a l' (idled e x z) = rw e (omega (arith, x, z))
@@ -55,6 +46,16 @@ pick-line : (t : ℕ) (y : Tally) (l : Line) (a : Answer) (l' : Line) → Picked
     length (startLine t a) + 6 * lines y ≡ 6 * lines (afterPick t a y)
 pick-line t y l a l' (idled e x z) = rw e (omega arith)
 pick-line t y l a l' (gave f len d v e less most) = rw e (omega arith)
+
+-- .. and the number beside it
+event-beside : (v : List ℕ) → length v ≡ 6 → (n : ℕ) (b : Bool) → 6 * length (cond b [] (n ∷ [])) ≡ length (cond b [] v)
+event-beside v e n true = omega arith
+event-beside v e n false = omega (arith, e)
+
+pick-beside : (t : ℕ) (l : Line) (a : Answer) (l' : Line) → PickedAs l a l' →
+    6 * length (besideOf (asks t) a l') ≡ length (startLine t a)
+pick-beside t l a l' (idled e x z) = rw e (omega arith)
+pick-beside t l a l' (gave f len d v e less most) = rw e (omega arith)
 
 module _ (T : Table) where
   -- ---- at every point, the lines written and the packets that wait are the events booked
@@ -92,13 +93,30 @@ module _ (T : Table) where
       simp length-append (omega (
         arith,
         lines-length ks (arrivalOf T l f n .line) (afterEvent a (arrivalOf T l f n .answer .refusal) y) (arrival-keeps T l ok f n),
-        event-line y a f n (arrivalOf T l f n .answer .refusal) (eqb (arrivalOf T l f n .answer .refusal) 0),
+        event-size 6 y (2 ∷ a ∷ f ∷ n ∷ arrivalOf T l f n .answer .refusal ∷ 0 ∷ []) refl (eqb (arrivalOf T l f n .answer .refusal) 0),
       ))
   lines-length (asks t ∷ ks) l y ok =
       simp length-append (omega (
         arith,
         lines-length ks (pickOf T l .line) (afterPick t (pickOf T l .answer) y) (pick-keeps T l ok),
         pick-line t y l (pickOf T l .answer) (pickOf T l .line) (pick-as T l ok),
+      ))
+
+  -- ---- beside each of these lines there is one number
+  pub beside-each : (ks : List Act) (l : Line) → Sound T l → 6 * length (besideAll T ks l) ≡ length (linesOf T ks l)
+  beside-each [] l ok = omega arith
+  beside-each (comes a f n ∷ ks) l ok =
+      simp length-append (omega (
+        arith,
+        beside-each ks (arrivalOf T l f n .line) (arrival-keeps T l ok f n),
+        event-beside (2 ∷ a ∷ f ∷ n ∷ arrivalOf T l f n .answer .refusal ∷ 0 ∷ []) refl (bytesWaiting (arrivalOf T l f n .line) f)
+            (eqb (arrivalOf T l f n .answer .refusal) 0),
+      ))
+  beside-each (asks t ∷ ks) l ok =
+      simp length-append (omega (
+        arith,
+        beside-each ks (pickOf T l .line) (pick-keeps T l ok),
+        pick-beside t l (pickOf T l .answer) (pickOf T l .line) (pick-as T l ok),
       ))
 
   -- ---- line 3 counts the packets sent ..

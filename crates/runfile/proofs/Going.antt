@@ -1,8 +1,8 @@
 -- The run's loop: what holds before each turn, and what each kind of turn leaves.
 use mathlib.Core.Path.{_≡_, refl, sym, ap, subst, _∙_}
 use mathlib.Core.Bool.{Bool, true, false, cond, _&&_, true≢false}
-use mathlib.Core.List.{List, [], _∷_, _++_, append-assoc}
-use mathlib.Core.Logic.{_⊎_, ⊎-elim}
+use mathlib.Core.List.{List, [], _∷_, _++_}
+use mathlib.Core.Logic.{⊎-elim}
 use Prim.Native.Nat.{ℕ, zero, suc, _+_, _*_, _-_, _≤_, _<_}
 use native.Mathlib.Nat.{sub-zero}
 use native.Mathlib.Omega.{arith}
@@ -10,13 +10,12 @@ use types.Run.{OneOf, miss}
 use denote.Enum.Declared.{tagOf}
 use borrow.Author.Tests.{le-leb, lt-leb, leb-true, leb-false, lt-ltb, le-ltb, ltb-true, eq-eqb}
 use lib.Dec.{leb, ltb, eqb}
-use lib.ListN.{length, take, drop}
-use lib.Seq.{drop-drop}
+use lib.ListN.{length, drop, List·getD-eq-default}
 use Rattle.drr.specs.declared.Table.{Table}
 use Rattle.drr.specs.declared.PickAnswer.{PickAnswer}
 use Rattle.drr.specs.declared.PickAnswer.the-variants.{Idle, Sent, Refused}
-use Rattle.drr.specs.Limits.{mostMaximum, mostWaiting}
-use Rattle.drr.specs.State.{Line, waitingOf, maximumOf, freshLine}
+use Rattle.drr.specs.Limits.{mostFlows, mostMaximum, mostWaiting}
+use Rattle.drr.specs.State.{Line, waitingOf, bytesWaiting, maximumOf, freshLine}
 use Rattle.drr.specs.Facts.{Sound, Ranged}
 use Rattle.drr.specs.Answers.{numberOf, Answer, idle, sentAs, lengthIn, pickPaper, Outcome, outcome}
 use Rattle.drr.specs.Arrival.{arrivalOf}
@@ -31,9 +30,10 @@ use Rattle.drr.proofs.Waiting.{waitingAll, fresh-waits, put-waits, PickedAs, id
 use Rattle.runfile.specs.declared.turns.Tally.{Tally}
 use Rattle.runfile.specs.File.{Event, eventAt, eventsFrom}
 use Rattle.runfile.specs.Run.{Act, comes, asks, free, still, onward, calls, enough}
-use Rattle.runfile.specs.Listing.{tally, dropLine, startLine, afterEvent, afterPick, written, listing, eventsListing}
-use Rattle.runfile.specs.Needs.{comeb}
-use Rattle.runfile.proofs.Lines.{written-length, written-front, written-back}
+use Rattle.runfile.specs.Listing.{tally, dropLine, startLine, afterEvent, afterPick, listing, eventsListing, written}
+use Rattle.runfile.specs.Listing.{besideEvent, besideOf, besideAll, eventsWaiting}
+use Rattle.runfile.specs.Needs.{atFlow, comeb}
+use Rattle.runfile.proofs.Lines.{Filling, filling-first, filling-on, filling-more, filling-ends}
 
 -- ---- an arrival: accepted, one more waits; refused, the line is as it was
 pub arrival-waits : (T : Table) (l : Line) → Sound T l → (f len : ℕ) →
@@ -65,23 +65,26 @@ pub events-length : (t : List ℕ) (at k : ℕ) → length (eventsFrom t at k) �
 events-length t at zero = refl
 events-length t at (suc k) = ap suc (events-length t (at + 1) k)
 
--- ---- the lines written so far, and one more
-module _ (o v : List ℕ) (k : ℕ) (fits : 6 * k + length v ≤ length o) where
-  moved : (k' : ℕ) → 6 * k' ≡ 6 * k + length v → (X : List ℕ) → take (6 * k') (written o k v) ++ X ≡ take (6 * k) o ++ (v ++ X)
-  moved k' e X =
-      ap (λ (i : ℕ). take i (written o k v) ++ X) e ∙ ap (λ (l : List ℕ). l ++ X) (written-front o v k fits)
-      ∙ append-assoc (take (6 * k) o) v X
-
-  kept : (k' : ℕ) → 6 * k' ≡ 6 * k + length v → (o₀ : List ℕ) → drop (6 * k) o ≡ drop (6 * k) o₀ →
-      drop (6 * k') (written o k v) ≡ drop (6 * k') o₀
-  kept k' e o₀ h =
-      ap (λ (i : ℕ). drop i (written o k v)) e ∙ written-back o v k fits
-      ∙ sym (drop-drop (length v) (6 * k) o) ∙ ap (drop (length v)) h ∙ drop-drop (length v) (6 * k) o₀
-      ∙ ap (λ (i : ℕ). drop i o₀) (sym e)
-
 -- the lines written when so many were sent and refused
 abbrev pub lines : Tally → ℕ
 lines y = y .sent + y .refused
+
+-- an event, by whether it is accepted: a packet more waits, or there is a line more, of w numbers
+pub event-counts : (y : Tally) (b : Bool) → y .sent + cond b (y .refused) (y .refused + 1) + cond b 1 0 ≡ lines y + 1
+event-counts y true = omega arith
+event-counts y false = omega arith
+
+pub event-size : (w : ℕ) (y : Tally) (v : List ℕ) → length v ≡ w → (b : Bool) →
+    w * (y .sent + cond b (y .refused) (y .refused + 1)) ≡ w * lines y + length (cond b [] v)
+event-size w y v e true = omega arith
+event-size w y v e false = omega (arith, e)
+
+-- what is read of a sound line for a flow is the number beside the flow's line
+beside-is : (T : Table) (l : Line) → Sound T l → (f n : ℕ) → n ≡ atFlow (l .sums) f → n ≡ bytesWaiting l f
+beside-is T l ok f n is = is ∙ ⊎-elim
+    (λ low. rw (lt-ltb f mostFlows low) (ok .flows f low .true-sum))
+    (λ high. rw (le-ltb f mostFlows high, List·getD-eq-default (l .counts) 0 {n = f} (omega (arith, ok .shape .counts-length))))
+    (below? f mostFlows)
 
 -- 0 where the next event has come, 1 where a pick comes first
 abbrev pub late : List ℕ → ℕ → ℕ → ℕ → ℕ
@@ -124,18 +127,18 @@ closing : (T : Table) (l : Line) (y : Tally) → listing T [] l y ≡ 3 ∷ y .l
 unfolding listing
 closing T l y = refl
 
--- The run of the m events of t, from the lent list o₀, whose listing is to be L: at the tick `now` with `at` events passed, the count
--- y, the line l and the list o, what is written, with what the calls from here on will give, is the listing.
-pub record Inside (T : Table) (t : List ℕ) (m : ℕ) (o₀ L : List ℕ) (now at : ℕ) (y : Tally) (l : Line) (o : List ℕ) : Type 0 where
+-- The run of the m events of t, into the lent lists o₀ and b₀, of which one is to get its listing L, the other the numbers W beside it:
+-- at the tick `now` with `at` events passed, the count y, the line l and the lists o and b, what is written, with what the calls from here
+-- on will give, is L, and W.
+pub record Inside (T : Table) (t : List ℕ) (m : ℕ) (o₀ L b₀ W : List ℕ) (now at : ℕ) (y : Tally) (l : Line) (o b : List ℕ) : Type 0 where
   pub sound : Sound T l
   pub at-most : at ≤ m
   pub each-one : lines y + waitingAll l ≡ at
-  pub size : length o ≡ length o₀
-  pub behind : drop (6 * lines y) o ≡ drop (6 * lines y) o₀
   pub now-most : now ≤ 4294967296 + mostMaximum * y .sent
   pub fuel : ℕ
   pub enough-fuel : 4 * (m - at) + 2 * waitingAll l + late t m now at ≤ fuel
-  pub rest : take (6 * lines y) o ++ listing T (calls fuel T (free now) (left t m at) l) l y ≡ L
+  pub listed : Filling 6 o₀ L (lines y) (listing T (calls fuel T (free now) (left t m at) l) l y) o
+  pub besides : Filling 1 b₀ W (lines y) (besideAll T (calls fuel T (free now) (left t m at) l) l) b
 
 -- what falls with each turn
 abbrev pub ahead-of : List ℕ → ℕ → ℕ → ℕ → Line → ℕ
@@ -149,12 +152,16 @@ pub record Here : Type 0 where
   pub before : List ℕ
   pub whole : List ℕ
   pub room : 6 * (events + 1) ≤ length before
+  pub before-beside : List ℕ
+  pub whole-beside : List ℕ
+  pub room-beside : events ≤ length before-beside
   pub tick : ℕ
   pub passed : ℕ
   pub count : Tally
   pub line : Line
   pub list : List ℕ
-  pub inside : Inside table file events before whole tick passed count line list
+  pub beside : List ℕ
+  pub inside : Inside table file events before whole before-beside whole-beside tick passed count line list beside
 
 module _ (H : Here) where
   abbrev T : Table
@@ -172,6 +179,12 @@ module _ (H : Here) where
   abbrev L : List ℕ
   L = H .whole
 
+  abbrev b₀ : List ℕ
+  b₀ = H .before-beside
+
+  abbrev W : List ℕ
+  W = H .whole-beside
+
   abbrev now : ℕ
   now = H .tick
 
@@ -187,12 +200,15 @@ module _ (H : Here) where
   abbrev o : List ℕ
   o = H .list
 
-  abbrev h : Inside T t m o₀ L now at y l o
+  abbrev b : List ℕ
+  b = H .beside
+
+  abbrev h : Inside T t m o₀ L b₀ W now at y l o b
   h = H .inside
 
   -- the same run, somewhere else
-  abbrev On : ℕ → ℕ → Tally → Line → List ℕ → Type 0
-  On = Inside T t m o₀ L
+  abbrev On : ℕ → ℕ → Tally → Line → List ℕ → List ℕ → Type 0
+  On = Inside T t m o₀ L b₀ W
 
   abbrev ahead-at : ℕ → ℕ → Line → ℕ
   ahead-at = ahead-of t m
@@ -200,16 +216,19 @@ module _ (H : Here) where
   pub lines-most : lines y ≤ at
   lines-most = omega (arith, h .each-one)
 
-  -- there is room for a line more
+  -- there is room for a line more, and beside it where line 3 is still to come after it
   pub line-fits : 6 * lines y + 6 ≤ length o
-  line-fits = omega (arith, h .size, h .each-one, h .at-most)
+  line-fits = omega (arith, h .listed .size, h .each-one, h .at-most)
 
-  -- the calls from here on, with fuel f
+  pub beside-fits : lines y < m → 1 * lines y + 1 ≤ length b
+  beside-fits less = omega (arith, h .besides .size, H .room-beside)
+
+  -- the calls from here on, with fuel f: what they list, and beside it
   abbrev ahead : ℕ → List ℕ
   ahead f = listing T (calls f T (free now) (left t m at) l) l y
 
-  rest-at : (f : ℕ) → h .fuel ≡ f → take (6 * lines y) o ++ ahead f ≡ L
-  rest-at f e = ap (λ (k : ℕ). take (6 * lines y) o ++ ahead k) (sym e) ∙ h .rest
+  abbrev aside : ℕ → List ℕ
+  aside f = besideAll T (calls f T (free now) (left t m at) l) l
 
   -- ---- the next event has come: it is booked
   module _ (more : at < m) (has-come : eventAt t at .tick ≤ now) (a : Answer) (l' : Line)
@@ -220,29 +239,34 @@ module _ (H : Here) where
     abbrev v : List ℕ
     v = dropLine (ev .tick) (ev .flow) (ev .length) (a .refusal)
 
+    abbrev u : List ℕ
+    u = besideEvent (a .refusal) (bytesWaiting l' (ev .flow))
+
     abbrev y' : Tally
     y' = afterEvent (ev .tick) (a .refusal) y
 
+    comes-next : (k : ℕ) →
+        calls (suc k) T (free now) (left t m at) l
+        ≡ comes (ev .tick) (ev .flow) (ev .length) ∷ calls k T (free now) (left t m (at + 1)) (arrivalOf T l (ev .flow) (ev .length) .line)
+    unfolding calls
+    comes-next k = rw (left-more t m at more) (rw (le-leb (ev .tick) now has-come) refl)
+
     step-books : (k : ℕ) → ahead (suc k) ≡ v ++ listing T (calls k T (free now) (left t m (at + 1)) l') l' y'
-    unfolding calls listing
+    unfolding listing
     step-books k =
-        ap (λ (es : List Event). listing T (calls (suc k) T (free now) es l) l y) (left-more t m at more)
-        ∙ ap (λ (b : Bool). listing T
-        (cond b (comes (ev .tick) (ev .flow) (ev .length) ∷ calls k T (free now) (left t m (at + 1))
-        (arrivalOf T l (ev .flow) (ev .length) .line))
-        (asks now ∷ calls k T (onward now (pickOf T l .answer)) (ev ∷ left t m (at + 1)) (pickOf T l .line))) l y)
-        (le-leb (ev .tick) now has-come)
+        ap (λ (ks : List Act). listing T ks l y) (comes-next k)
         ∙ ap (λ (z : Outcome). dropLine (ev .tick) (ev .flow) (ev .length) (z .answer .refusal)
         ++ listing T (calls k T (free now) (left t m (at + 1)) (z .line)) (z .line) (afterEvent (ev .tick) (z .answer .refusal) y)) (sym e)
 
-    -- by whether it is accepted: the lines written, the packets waiting
-    sizes : (b : Bool) →
-        (6 * (y .sent + cond b (y .refused) (y .refused + 1))
-        ≡ 6 * lines y + length (cond b [] (2 ∷ ev .tick ∷ ev .flow ∷ ev .length ∷ a .refusal ∷ 0 ∷ [])))
-        × (length (cond b [] (2 ∷ ev .tick ∷ ev .flow ∷ ev .length ∷ a .refusal ∷ 0 ∷ [])) ≤ 6)
-        × (y .sent + cond b (y .refused) (y .refused + 1) + cond b 1 0 ≡ lines y + 1)
-    sizes true = (omega arith, omega arith, omega arith)
-    sizes false = (omega arith, omega arith, omega arith)
+    step-aside : (k : ℕ) → aside (suc k) ≡ u ++ besideAll T (calls k T (free now) (left t m (at + 1)) l') l'
+    step-aside k =
+        ap (λ (ks : List Act). besideAll T ks l) (comes-next k)
+        ∙ ap (λ (z : Outcome). besideEvent (z .answer .refusal) (bytesWaiting (z .line) (ev .flow))
+        ++ besideAll T (calls k T (free now) (left t m (at + 1)) (z .line)) (z .line)) (sym e)
+
+    -- the lines written, the packets waiting
+    counted : lines y' + cond (eqb (a .refusal) 0) 1 0 ≡ lines y + 1
+    counted = event-counts y (eqb (a .refusal) 0)
 
     waits : waitingAll l' ≡ waitingAll l + cond (eqb (a .refusal) 0) 1 0
     waits = subst (λ (z : Outcome). waitingAll (z .line) ≡ waitingAll l + cond (eqb (z .answer .refusal) 0) 1 0) (sym e)
@@ -252,28 +276,40 @@ module _ (H : Here) where
     one true = omega arith
     one false = omega arith
 
-    pub inside-books : (o' : List ℕ) → o' ≡ written o (lines y) v → On now (at + 1) y' l' o'
-    inside-books o' is = subst (On now (at + 1) y' l') (sym is) (by (h .fuel) refl)
+    sound-booked : Sound T l'
+    sound-booked = subst (λ (z : Outcome). Sound T (z .line)) (sym e) (arrival-keeps T l (h .sound) (ev .flow) (ev .length))
+
+    pub inside-books : (o' : List ℕ) → o' ≡ written 6 o (lines y) v → (n : ℕ) → n ≡ atFlow (l' .sums) (ev .flow) → (b' : List ℕ) →
+        b' ≡ written 1 b (lines y) (besideEvent (a .refusal) n) → On now (at + 1) y' l' o' b'
+    inside-books o' is n is-n b' is-b = by (h .fuel) refl
       where
-        z : (6 * lines y' ≡ 6 * lines y + length v) × (length v ≤ 6) × (lines y' + cond (eqb (a .refusal) 0) 1 0 ≡ lines y + 1)
-        z = sizes (eqb (a .refusal) 0)
+        u-is : b' ≡ written 1 b (lines y) u
+        u-is = is-b
+            ∙ ap (λ (x : ℕ). written 1 b (lines y) (besideEvent (a .refusal) x)) (beside-is T l' sound-booked (ev .flow) n is-n)
 
-        fits : 6 * lines y + length v ≤ length o
-        fits = omega (arith, line-fits, z .1)
+        v-next : 6 * lines y' ≡ 6 * lines y + length v
+        v-next = event-size 6 y (2 ∷ ev .tick ∷ ev .flow ∷ ev .length ∷ a .refusal ∷ 0 ∷ []) refl (eqb (a .refusal) 0)
 
-        by : (f : ℕ) → h .fuel ≡ f → On now (at + 1) y' l' (written o (lines y) v)
+        u-next : 1 * lines y' ≡ 1 * lines y + length u
+        u-next = event-size 1 y (bytesWaiting l' (ev .flow) ∷ []) refl (eqb (a .refusal) 0)
+
+        v-fits : 6 * lines y + length v ≤ length o
+        v-fits = omega (arith, line-fits, v-next, counted)
+
+        u-fits : 1 * lines y + length u ≤ length b
+        u-fits = omega (arith, beside-fits (omega (arith, lines-most)), u-next, counted)
+
+        by : (f : ℕ) → h .fuel ≡ f → On now (at + 1) y' l' o' b'
         by zero q = absurd (omega (arith, h .enough-fuel))
         by (suc k) q = record {
-          sound = subst (λ (z : Outcome). Sound T (z .line)) (sym e) (arrival-keeps T l (h .sound) (ev .flow) (ev .length));
+          sound = sound-booked;
           at-most = omega arith;
-          each-one = omega (arith, h .each-one, z .2, waits);
-          size = written-length o v (lines y) fits ∙ h .size;
-          behind = kept o v (lines y) fits (lines y') (z .0) o₀ (h .behind);
+          each-one = omega (arith, h .each-one, counted, waits);
           now-most = h .now-most;
           fuel = k;
           enough-fuel = omega (arith, h .enough-fuel, waits, one (eqb (a .refusal) 0), late-most t m now (at + 1));
-          rest = moved o v (lines y) fits (lines y') (z .0) _ ∙ ap (λ (r : List ℕ). take (6 * lines y) o ++ r) (sym (step-books k))
-              ∙ rest-at (suc k) q;
+          listed = filling-more (h .listed) v _ (ap ahead q ∙ step-books k) v-fits (lines y') v-next o' is;
+          besides = filling-more (h .besides) u _ (ap aside q ∙ step-aside k) u-fits (lines y') u-next b' u-is;
         }
 
     pub books-less : ahead-at now (at + 1) l' < ahead-at now at l
@@ -297,6 +333,12 @@ module _ (H : Here) where
         ∙ ap (λ (z : Outcome). startLine now (z .answer)
         ++ listing T (calls k T (onward now (z .answer)) (left t m at) (z .line)) (z .line) (afterPick now (z .answer) y)) (sym e)
 
+    step-asks : (k : ℕ) → aside (suc k) ≡ besideOf (asks now) a l' ++ besideAll T (calls k T (onward now a) (left t m at) l') l'
+    step-asks k =
+        ap (λ (ks : List Act). besideAll T ks l) (asks-next k)
+        ∙ ap (λ (z : Outcome). besideOf (asks now) (z .answer) (z .line)
+        ++ besideAll T (calls k T (onward now (z .answer)) (left t m at) (z .line)) (z .line)) (sym e)
+
     picked : PickedAs l a l'
     picked = subst (λ (z : Outcome). PickedAs l (z .answer) (z .line)) (sym e) (pick-as T l (h .sound))
 
@@ -318,32 +360,40 @@ module _ (H : Here) where
     pub sent-most : len ≤ mostMaximum
     sent-most = sent-is .0
 
-    pub inside-sends : (o' : List ℕ) → o' ≡ written o (lines y) (1 ∷ now ∷ f ∷ len ∷ d ∷ w ∷ []) →
-        On (now + len) at (tally (y .sent + 1) (y .refused) (now + len)) l' o'
-    inside-sends o' is = subst (On (now + len) at (tally (y .sent + 1) (y .refused) (now + len)) l') (sym is) (by (h .fuel) refl)
+    -- the line's flow is one that waits: line 3 is still to come
+    pub sent-before : lines y < m
+    sent-before = omega (arith, h .each-one, h .at-most, sent-is .1)
+
+    pub inside-sends : (o' : List ℕ) → o' ≡ written 6 o (lines y) (1 ∷ now ∷ f ∷ len ∷ d ∷ w ∷ []) → (n : ℕ) →
+        n ≡ atFlow (l' .sums) f → (b' : List ℕ) → b' ≡ written 1 b (lines y) (n ∷ []) →
+        On (now + len) at (tally (y .sent + 1) (y .refused) (now + len)) l' o' b'
+    inside-sends o' is n is-n b' is-b = by (h .fuel) refl
       where
-        v : List ℕ
-        v = 1 ∷ now ∷ f ∷ len ∷ d ∷ w ∷ []
+        a : Answer
+        a = sentAs f len d w
 
         k' : ℕ
         k' = y .sent + 1 + y .refused
 
-        next : 6 * k' ≡ 6 * lines y + 6
-        next = omega arith
+        next : (x : ℕ) → x * k' ≡ x * lines y + x
+        next x = omega arith
 
-        by : (fu : ℕ) → h .fuel ≡ fu → On (now + len) at (tally (y .sent + 1) (y .refused) (now + len)) l' (written o (lines y) v)
-        by zero q = absurd (omega (arith, some-fuel later (sentAs f len d w) l' e zero q))
+        u-is : b' ≡ written 1 b (lines y) (bytesWaiting l' f ∷ [])
+        u-is = is-b ∙ ap (λ (x : ℕ). written 1 b (lines y) (x ∷ [])) (beside-is T l' (sound' later a l' e) f n is-n)
+
+        by : (fu : ℕ) → h .fuel ≡ fu → On (now + len) at (tally (y .sent + 1) (y .refused) (now + len)) l' o' b'
+        by zero q = absurd (omega (arith, some-fuel later a l' e zero q))
         by (suc k) q = record {
-          sound = sound' later (sentAs f len d w) l' e;
+          sound = sound' later a l' e;
           at-most = h .at-most;
           each-one = omega (arith, h .each-one, sent-is .1);
-          size = written-length o v (lines y) line-fits ∙ h .size;
-          behind = kept o v (lines y) line-fits k' next o₀ (h .behind);
           now-most = omega (arith, h .now-most, sent-most);
           fuel = k;
-          enough-fuel = omega (arith, some-fuel later (sentAs f len d w) l' e (suc k) q, sent-is .1, late-most t m (now + len) at);
-          rest = moved o v (lines y) line-fits k' next _
-              ∙ ap (λ (r : List ℕ). take (6 * lines y) o ++ r) (sym (step-picks later (sentAs f len d w) l' e k)) ∙ rest-at (suc k) q;
+          enough-fuel = omega (arith, some-fuel later a l' e (suc k) q, sent-is .1, late-most t m (now + len) at);
+          listed = filling-more (h .listed) (1 ∷ now ∷ f ∷ len ∷ d ∷ w ∷ []) _ (ap ahead q ∙ step-picks later a l' e k) line-fits k'
+              (next 6) o' is;
+          besides = filling-more (h .besides) (bytesWaiting l' f ∷ []) _ (ap aside q ∙ step-asks later a l' e k) (beside-fits sent-before)
+              k' (next 1) b' u-is;
         }
 
     pub sends-less : ahead-at (now + len) at l' < ahead-at now at l
@@ -367,50 +417,51 @@ module _ (H : Here) where
       unfolding calls
       jumps k = rw (left-more t m at more) (rw (le-leb tick tick (omega arith)) refl)
 
-      pub inside-jumps : tick < 4294967296 → On tick at y l' o
+      pub inside-jumps : tick < 4294967296 → On tick at y l' o b
       inside-jumps small = by (h .fuel) refl
         where
-          by : (fu : ℕ) → h .fuel ≡ fu → On tick at y l' o
+          by : (fu : ℕ) → h .fuel ≡ fu → On tick at y l' o b
           by zero q = absurd (omega (arith, some-fuel later idle l' e zero q))
           by (suc zero) q = absurd (omega (arith, some-fuel later idle l' e 1 q))
           by (suc (suc k)) q = record {
             sound = sound' later idle l' e;
             at-most = h .at-most;
             each-one = omega (arith, h .each-one, idle-is .0, idle-is .1);
-            size = h .size;
-            behind = h .behind;
             now-most = omega arith;
             fuel = suc k;
             enough-fuel = omega (arith, some-fuel later idle l' e (suc (suc k)) q, idle-is .0, late-not t m tick at more (omega arith));
-            rest = ap (λ (r : List ℕ). take (6 * lines y) o ++ r) (ap (λ (ks : List Act). listing T ks l' y) (sym (jumps k))
-                ∙ sym (step-picks later idle l' e (suc k))) ∙ rest-at (suc (suc k)) q;
+            listed = filling-on (h .listed) _
+                (ap ahead q ∙ step-picks later idle l' e (suc k) ∙ ap (λ (ks : List Act). listing T ks l' y) (jumps k));
+            besides = filling-on (h .besides) _
+                (ap aside q ∙ step-asks later idle l' e (suc k) ∙ ap (λ (ks : List Act). besideAll T ks l') (jumps k));
           }
 
       pub jumps-less : ahead-at tick at l' < ahead-at now at l
       jumps-less = omega (arith, idle-is .0, late-not t m tick at more (omega arith), late-is t m now at later)
 
     -- with none left, the run ends
-    pub run-ends : m ≤ at → (o' : List ℕ) → o' ≡ written o (lines y) (3 ∷ y .last ∷ y .sent ∷ y .refused ∷ 0 ∷ 0 ∷ []) →
-        o' ≡ L ++ drop (6 * (m + 1)) o₀
-    run-ends none o' is =
-        is ∙ ap (λ (r : List ℕ). r ++ drop (6 * lines y + 6) o) (last-line (h .fuel) refl) ∙ ap (λ (r : List ℕ). L ++ r) behind'
+    pub run-ends : m ≤ at → (o' : List ℕ) → o' ≡ written 6 o (lines y) (3 ∷ y .last ∷ y .sent ∷ y .refused ∷ 0 ∷ 0 ∷ []) →
+        (o' ≡ L ++ drop (6 * (m + 1)) o₀) × (b ≡ W ++ drop m b₀)
+    run-ends none o' is = by (h .fuel) refl
       where
         all : lines y ≡ m
         all = omega (arith, h .each-one, idle-is .1, h .at-most)
 
-        ends : (k : ℕ) → listing T (calls k T still (left t m at) l') l' y ≡ 3 ∷ y .last ∷ y .sent ∷ y .refused ∷ 0 ∷ 0 ∷ []
-        ends k = ap (λ (es : List Event). listing T (calls k T still es l') l' y) (left-none t m at none)
-            ∙ (ap (λ (ks : List Act). listing T ks l' y) (over T l' k) ∙ closing T l' y)
+        -- no call is left after the pick
+        none-ahead : (k : ℕ) → calls k T still (left t m at) l' ≡ []
+        none-ahead k = ap (λ (es : List Event). calls k T still es l') (left-none t m at none) ∙ over T l' k
 
-        last-line : (fu : ℕ) → h .fuel ≡ fu → take (6 * lines y) o ++ (3 ∷ y .last ∷ y .sent ∷ y .refused ∷ 0 ∷ 0 ∷ []) ≡ L
-        last-line zero q = absurd (omega (arith, some-fuel later idle l' e zero q))
-        last-line (suc k) q =
-            ap (λ (r : List ℕ). take (6 * lines y) o ++ r) (sym (step-picks later idle l' e k ∙ ends k)) ∙ rest-at (suc k) q
-
-        behind' : drop (6 * lines y + 6) o ≡ drop (6 * (m + 1)) o₀
-        behind' =
-            sym (drop-drop 6 (6 * lines y) o) ∙ ap (drop 6) (h .behind) ∙ drop-drop 6 (6 * lines y) o₀
-            ∙ (let z : 6 * lines y + 6 ≡ 6 * (m + 1) = omega (arith, all) in ap (λ (i : ℕ). drop i o₀) z)
+        by : (fu : ℕ) → h .fuel ≡ fu → (o' ≡ L ++ drop (6 * (m + 1)) o₀) × (b ≡ W ++ drop m b₀)
+        by zero q = absurd (omega (arith, some-fuel later idle l' e zero q))
+        by (suc k) q =
+            let last-line = ap ahead q ∙ step-picks later idle l' e k ∙ ap (λ (ks : List Act). listing T ks l' y) (none-ahead k)
+            ∙ closing T l' y in
+            let last-beside = ap aside q ∙ step-asks later idle l' e k ∙ ap (λ (ks : List Act). besideAll T ks l') (none-ahead k) in
+            let o-fills = filling-more (h .listed) (3 ∷ y .last ∷ y .sent ∷ y .refused ∷ 0 ∷ 0 ∷ []) [] last-line line-fits (lines y + 1)
+            (omega arith) o' is in (
+              filling-ends o-fills refl ∙ ap (λ (i : ℕ). L ++ drop (6 * (i + 1)) o₀) all,
+              filling-ends (h .besides) last-beside ∙ (let z : 1 * lines y ≡ m = omega (arith, all) in ap (λ (i : ℕ). W ++ drop i b₀) z),
+            )
 
   -- ---- the same, as the code takes it: with numbers that it read, widened and counted
   module _ (tick flow len : ℕ) (is-tick : tick ≡ eventAt t at .tick) (is-flow : flow ≡ eventAt t at .flow)
@@ -419,10 +470,12 @@ module _ (H : Here) where
     e' : outcome a l' ≡ arrivalOf T l (eventAt t at .flow) (eventAt t at .length)
     e' = rw (is-flow, is-len) at e
 
-    pub books : (o' : List ℕ) → o' ≡ written o (lines y) (dropLine tick flow len (a .refusal)) → (r : ℕ) → r ≡ a .refusal → (z : Tally) →
-        z ≡ afterEvent tick r y → On now (at + 1) z l' o'
-    books o' is r is-r z is-z =
-        rw (is-z, is-r, is-tick) (inside-books more (rw is-tick at has-come) a l' e' o' (rw (is-tick, is-flow, is-len) at is))
+    pub books : (o' : List ℕ) → o' ≡ written 6 o (lines y) (dropLine tick flow len (a .refusal)) →
+        (n : ℕ) → n ≡ atFlow (l' .sums) flow → (b' : List ℕ) → b' ≡ written 1 b (lines y) (besideEvent (a .refusal) n) →
+        (r : ℕ) → r ≡ a .refusal → (z : Tally) → z ≡ afterEvent tick r y → On now (at + 1) z l' o' b'
+    books o' is n is-n b' is-b r is-r z is-z =
+        rw (is-z, is-r, is-tick)
+        (inside-books more (rw is-tick at has-come) a l' e' o' (rw (is-tick, is-flow, is-len) at is) n (rw is-flow at is-n) b' is-b)
 
     pub booked-less : ahead-at now (at + 1) l' < ahead-at now at l
     booked-less = books-less more (rw is-tick at has-come) a l' e'
@@ -435,10 +488,15 @@ module _ (H : Here) where
     pub given-most : len ≤ mostMaximum
     given-most = sent-most later f len d w l' e″
 
+    pub given-before : lines y < m
+    given-before = sent-before later f len d w l' e″
+
     module _ (size : ℕ) (is-size : size ≡ len) where
-      pub sends : (d' w' : ℕ) → d' ≡ d → w' ≡ w → (o' : List ℕ) → o' ≡ written o (lines y) (1 ∷ now ∷ f ∷ size ∷ d' ∷ w' ∷ []) →
-          (z : Tally) → z ≡ tally (y .sent + 1) (y .refused) (now + size) → On (now + size) at z l' o'
-      sends d' w' is-d is-w o' is z is-z = rw (is-z, is-size) (inside-sends later f len d w l' e″ o' (rw (is-size, is-d, is-w) at is))
+      pub sends : (d' w' : ℕ) → d' ≡ d → w' ≡ w → (o' : List ℕ) → o' ≡ written 6 o (lines y) (1 ∷ now ∷ f ∷ size ∷ d' ∷ w' ∷ []) →
+          (n : ℕ) → n ≡ atFlow (l' .sums) f → (b' : List ℕ) → b' ≡ written 1 b (lines y) (n ∷ []) →
+          (z : Tally) → z ≡ tally (y .sent + 1) (y .refused) (now + size) → On (now + size) at z l' o' b'
+      sends d' w' is-d is-w o' is n is-n b' is-b z is-z =
+          rw (is-z, is-size) (inside-sends later f len d w l' e″ o' (rw (is-size, is-d, is-w) at is) n is-n b' is-b)
 
       pub sent-less : ahead-at (now + size) at l' < ahead-at now at l
       sent-less = rw is-size (sends-less later f len d w l' e″)
@@ -453,17 +511,19 @@ not-sent T l (Refused why) l' e o =
     apart (eq-eqb (numberOf why) 0 z) (number-some why))
 
 -- the start: nothing is written, and all is to come
-pub inside-first : (T : Table) (t : List ℕ) (m : ℕ) (o : List ℕ) → Ranged T →
-    Inside T t m o (eventsListing T (eventsFrom t 0 m)) 0 0 (tally 0 0 0) (freshLine (T .n)) o
-inside-first T t m o r = record {
+pub inside-first : (T : Table) (t : List ℕ) (m : ℕ) (o b : List ℕ) → Ranged T →
+    Inside T t m o (eventsListing T (eventsFrom t 0 m)) b (eventsWaiting T (eventsFrom t 0 m)) 0 0 (tally 0 0 0) (freshLine (T .n)) o b
+inside-first T t m o b r = record {
   sound = fresh-sound r;
   at-most = omega arith;
   each-one = omega (arith, fresh-waits (T .n));
-  size = refl;
-  behind = refl;
   now-most = omega arith;
   fuel = enough (eventsFrom t 0 m);
   enough-fuel = omega (arith, events-length t 0 m, late-most t m 0 0, fresh-waits (T .n));
-  rest = ap (λ (k : ℕ). listing T (calls (enough (eventsFrom t 0 m)) T (free 0) (eventsFrom t 0 k) (freshLine (T .n))) (freshLine (T .n))
-      (tally 0 0 0)) (sub-zero m);
+  listed = filling-on (filling-first 6 o _) _ (ap (λ (ks : List Act). listing T ks (freshLine (T .n)) (tally 0 0 0)) all);
+  besides = filling-on (filling-first 1 b _) _ (ap (λ (ks : List Act). besideAll T ks (freshLine (T .n))) all);
 }
+  where
+    all : calls (enough (eventsFrom t 0 m)) T (free 0) (eventsFrom t 0 m) (freshLine (T .n))
+        ≡ calls (enough (eventsFrom t 0 m)) T (free 0) (left t m 0) (freshLine (T .n))
+    all = ap (λ (k : ℕ). calls (enough (eventsFrom t 0 m)) T (free 0) (eventsFrom t 0 k) (freshLine (T .n))) (sym (sub-zero m))

@@ -5,6 +5,7 @@ use mathlib.Core.List.{List, [], _∷_}
 use lib.Dec.{ltb, leb, eqb}
 use lib.ListN.{length, getD, drop}
 use Rattle.drr.specs.declared.Table.{Table}
+use Rattle.runfile.specs.declared.turns.Event.{Event as Three}
 use Rattle.drr.specs.declared.FlowRecord.{FlowRecord}
 use Rattle.drr.specs.Limits.{mostFlows, mostEvents}
 use Rattle.drr.specs.State.{noFlows, emptyTable}
@@ -71,11 +72,9 @@ abbrev pub flowsFrom : List ℕ → ℕ → ℕ → List FlowRecord
 flowsFrom t i zero = []
 flowsFrom t i (suc k) = record { quantum = le4 t (8 * i); maximum = le4 t (8 * i + 4) } ∷ flowsFrom t (i + 1) k
 
--- "An event is tick (4), flow (2), length (2)."
-pub record Event : Type 0 where
-  pub tick : ℕ
-  pub flow : ℕ
-  pub length : ℕ
+-- "An event is tick (4), flow (2), length (2)." The code has a struct of these three numbers
+abbrev pub Event : Type 0
+Event = Three
 
 abbrev pub eventAt : List ℕ → ℕ → Event
 eventAt t i = record { tick = le4 t (8 * i); flow = le2 t (8 * i + 4); length = le2 t (8 * i + 6) }

@@ -1,12 +1,12 @@
 -- "The run file and its listing": the listing is a reading of the run's calls.
 use mathlib.Core.Bool.{cond}
 use mathlib.Core.List.{List, [], _∷_, _++_}
-use Prim.Native.Nat.{ℕ, _+_, _*_}
+use Prim.Native.Nat.{ℕ, _+_, _*_, min}
 use lib.Dec.{eqb}
 use lib.ListN.{length, take, drop}
 use Rattle.drr.specs.declared.Table.{Table}
-use Rattle.drr.specs.State.{Line, charge, freshLine}
-use Rattle.drr.specs.Answers.{Answer, lengthIn}
+use Rattle.drr.specs.State.{Line, bytesWaiting, charge, freshLine}
+use Rattle.drr.specs.Answers.{Answer, flowIn, lengthIn}
 use Rattle.drr.specs.Arrival.{arrivalOf}
 use Rattle.drr.specs.Computed.{pickOf}
 use Rattle.drr.specs.Floor.{givenIn, addedTo}
@@ -63,6 +63,21 @@ abbrev pub linesOf : Table → List Act → Line → List ℕ
 linesOf T [] l = []
 linesOf T (k ∷ ks) l = lineFor k (outcomeOf T l k .answer) ++ linesOf T ks (outcomeOf T l k .line)
 
+-- ---- beside each of these lines, the bytes that wait in the line's flow when the line is written
+-- an event has a line where it is refused ..
+abbrev pub besideEvent : ℕ → ℕ → List ℕ
+besideEvent refusal number = cond (eqb refusal 0) [] (number ∷ [])
+
+-- .. and a pick where it sends: the number beside the line of a call, if it has one, by the line l that the call leaves
+abbrev pub besideOf : Act → Answer → Line → List ℕ
+besideOf (comes tick flow length) a l = besideEvent (a .refusal) (bytesWaiting l flow)
+besideOf (asks tick) a l = cond (a .sends) (bytesWaiting l (flowIn a) ∷ []) []
+
+-- the numbers beside the calls' lines, one each
+abbrev pub besideAll : Table → List Act → Line → List ℕ
+besideAll T [] l = []
+besideAll T (k ∷ ks) l = besideOf k (outcomeOf T l k .answer) (outcomeOf T l k .line) ++ besideAll T ks (outcomeOf T l k .line)
+
 -- the ends of the packets sent, in their order
 abbrev pub endOf : ℕ → Answer → List ℕ
 endOf tick a = cond (a .sends) ((tick + charge (lengthIn a)) ∷ []) []
@@ -101,10 +116,29 @@ eventsListing T es = listing T (runOf T es) (freshLine (T .n)) (tally 0 0 0)
 abbrev pub runListing : List ℕ → List ℕ
 runListing b = eventsListing (tableIn b) (eventsIn b)
 
--- a lent list with the numbers v in the place of as many from line k on
-abbrev pub written : List ℕ → ℕ → List ℕ → List ℕ
-written out k v = take (6 * k) out ++ v ++ drop (6 * k + length v) out
+-- the numbers beside the lines of these events; line 3 has none
+abbrev pub eventsWaiting : Table → List Event → List ℕ
+eventsWaiting T es = besideAll T (runOf T es) (freshLine (T .n))
 
--- "what follows them stays"; a refused run writes nothing into the lent list
-unfoldable pub filled : List ℕ → List ℕ → List ℕ
-filled b out = cond (eqb (runAnswer b (length out) .refusal) 0) (runListing b ++ drop (6 * (eventCount b + 1)) out) out
+abbrev pub runWaiting : List ℕ → List ℕ
+runWaiting b = eventsWaiting (tableIn b) (eventsIn b)
+
+-- a lent list of w numbers a line, with the numbers v in the place of as many from line k on
+abbrev pub written : ℕ → List ℕ → ℕ → List ℕ → List ℕ
+written w out k v = take (w * k) out ++ v ++ drop (w * k + length v) out
+
+-- ---- the lent lists after the run of the file b with so much room: "what follows them stays"; a refused run writes nothing
+unfoldable pub filledLines : ℕ → List ℕ → List ℕ → List ℕ
+filledLines room b out = cond (eqb (runAnswer b room .refusal) 0) (runListing b ++ drop (6 * (eventCount b + 1)) out) out
+
+-- of a run with one list: its own room
+abbrev pub filled : List ℕ → List ℕ → List ℕ
+filled b out = filledLines (length out) b out
+
+-- .. and with a second, for the numbers beside its lines
+-- "14": the room of both lists, as numbers of the first; the second has one for each line but line 3
+abbrev pub roomOf : List ℕ → List ℕ → ℕ
+roomOf out beside = min (length out) (6 * (length beside + 1))
+
+unfoldable pub filledBeside : ℕ → List ℕ → List ℕ → List ℕ
+filledBeside room b beside = cond (eqb (runAnswer b room .refusal) 0) (runWaiting b ++ drop (eventCount b) beside) beside

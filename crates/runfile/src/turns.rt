@@ -1,5 +1,5 @@
-// The run of a file's events: the engine's booking and pick over local arrays, and a line written for
-// each packet sent and each event refused.
+// The run of a file's events: the engine's booking and pick over local arrays, a line written for each
+// packet sent and each event refused, and beside it what the line's flow has waiting.
 use super::fields::le2;
 use super::fields::le4;
 use drr::ArrivalAnswer;
@@ -15,15 +15,22 @@ ghost use Rattle.drr.specs.Limits.{mostEvents};
 ghost use Rattle.drr.specs.State.{spotAt};
 ghost use Rattle.drr.specs.Facts.{Ranged};
 ghost use Rattle.drr.specs.Answers.{arrivalPaper};
-ghost use Rattle.runfile.specs.File.{eventsFrom};
-ghost use Rattle.runfile.specs.Listing.{tally, dropLine, afterEvent, written, eventsListing};
-ghost use Rattle.runfile.specs.Needs.{Room, comeb};
+ghost use Rattle.runfile.specs.File.{eventAt, eventsFrom};
+ghost use Rattle.runfile.specs.Listing.{tally, dropLine, afterEvent, besideEvent, written, eventsListing, eventsWaiting};
+ghost use Rattle.runfile.specs.Needs.{Room, atFlow, comeb};
 
 // Packets sent, events refused, and the tick of line 3, so far.
 pub struct Tally {
     pub sent: usize,
     pub refused: usize,
     pub last: usize,
+}
+
+// An event of the file.
+pub struct Event {
+    pub tick: usize,
+    pub flow: usize,
+    pub length: usize,
 }
 
 fn either(test: bool, a: usize, b: usize) -> usize
@@ -35,7 +42,7 @@ fn either(test: bool, a: usize, b: usize) -> usize
 // Line k of the lent list.
 fn put_line(out: &mut [u64], k: usize, a: usize, b: usize, c: usize, d: usize, e: usize, f: usize)
     requires { ⌜ (6 * k + 6 ≤ length (now out)) × (k ≤ mostEvents) ⌝ }
-    ensures { λ _. ⌜ now (out .exit) ≡ written (now (out .entry)) k (a ∷ b ∷ c ∷ d ∷ e ∷ f ∷ []) ⌝ }
+    ensures { λ _. ⌜ now (out .exit) ≡ written 6 (now (out .entry)) k (a ∷ b ∷ c ∷ d ∷ e ∷ f ∷ []) ⌝ }
 {
     let at = 6 * k;
     out[at] = a as u64;
@@ -60,37 +67,62 @@ fn after_event(y: Tally, tick: usize, refusal: u32) -> Tally
     }
 }
 
-// An event that was booked: line k where it was refused, and the count after it.
-fn note(
-    out: &mut [u64],
-    y: Tally,
-    tick: usize,
-    flow: usize,
-    len: usize,
-    answer: ArrivalAnswer,
-) -> Tally
-    requires { ⌜ Room y (now out) ⌝ }
-    ensures { λ r. ⌜ r ≡ afterEvent tick (arrivalPaper answer .refusal) y ⌝ }
+// An event that was booked: a line where it was refused, and the count after it.
+fn note(out: &mut [u64], y: Tally, e: Event, answer: ArrivalAnswer) -> Tally
+    requires { ⌜ Room 6 y (now out) ⌝ }
+    ensures { λ r. ⌜ r ≡ afterEvent (e .tick) (arrivalPaper answer .refusal) y ⌝ }
     ensures { λ _. ⌜
         now (out .exit)
-        ≡ written (now (out .entry)) (y .sent + y .refused) (dropLine tick flow len (arrivalPaper answer .refusal)) ⌝ }
+        ≡ written 6 (now (out .entry)) (y .sent + y .refused) (dropLine (e .tick) (e .flow) (e .length) (arrivalPaper answer .refusal)) ⌝ }
 {
     match answer {
-        ArrivalAnswer::Accepted => after_event(y, tick, 0),
+        ArrivalAnswer::Accepted => after_event(y, e.tick, 0),
         ArrivalAnswer::Refused(why) => {
             let number = drr::refusal_number(why);
             put_line(
                 out,
                 y.sent + y.refused,
                 2,
-                tick,
-                flow,
-                len,
+                e.tick,
+                e.flow,
+                e.length,
                 widths::usize_of_u32(number),
                 0,
             );
-            after_event(y, tick, number)
+            after_event(y, e.tick, number)
         }
+    }
+}
+
+// The bytes that wait in a flow; none in one that there is not.
+fn waiting_at(sums: &[u32; 16], flow: usize) -> usize
+    ensures { λ r. ⌜ r ≡ atFlow (now (sums .entry)) flow ⌝ }
+{
+    if flow < drr::MOST_FLOWS {
+        widths::usize_of_u32(sums[flow])
+    } else {
+        0
+    }
+}
+
+// The number beside the line that is written next.
+fn put_beside(beside: &mut [u64], y: Tally, number: usize)
+    requires { ⌜ Room 1 y (now beside) ⌝ }
+    ensures { λ _. ⌜ now (beside .exit) ≡ written 1 (now (beside .entry)) (y .sent + y .refused) (number ∷ []) ⌝ }
+{
+    let k = y.sent + y.refused;
+    beside[k] = number as u64;
+}
+
+// The same of an event that was booked: it has a line where it was refused.
+fn note_beside(beside: &mut [u64], y: Tally, number: usize, answer: ArrivalAnswer)
+    requires { ⌜ Room 1 y (now beside) ⌝ }
+    ensures { λ _. ⌜
+        now (beside .exit)
+        ≡ written 1 (now (beside .entry)) (y .sent + y .refused) (besideEvent (arrivalPaper answer .refusal) number) ⌝ }
+{
+    if let ArrivalAnswer::Refused(_) = answer {
+        put_beside(beside, y, number);
     }
 }
 
@@ -104,12 +136,12 @@ fn send_line(
     deficit: u32,
     visits: u32,
 ) -> Tally
-    requires { ⌜ Room y (now out) ⌝ }
+    requires { ⌜ Room 6 y (now out) ⌝ }
     requires { ⌜ start + len ≤ 5000000000 ⌝ }
     ensures { λ r. ⌜ r ≡ tally (y .sent + 1) (y .refused) (start + len) ⌝ }
     ensures { λ _. ⌜
         now (out .exit)
-        ≡ written (now (out .entry)) (y .sent + y .refused) (1 ∷ start ∷ flow ∷ len ∷ deficit ∷ visits ∷ []) ⌝ }
+        ≡ written 6 (now (out .entry)) (y .sent + y .refused) (1 ∷ start ∷ flow ∷ len ∷ deficit ∷ visits ∷ []) ⌝ }
 {
     let size = widths::usize_of_u32(len);
     put_line(
@@ -160,20 +192,39 @@ fn has_come(t: &[u8], m: usize, at: usize, tick: usize) -> bool
     }
 }
 
+// Event `at`, which is there.
+fn event_at(t: &[u8], at: usize) -> Event
+    requires { ⌜ (8 * at + 8 ≤ length (now t)) × (at ≤ mostEvents) ⌝ }
+    ensures { λ r. ⌜ (r ≡ eventAt (now (t .entry)) at) × (r .length < 65536) ⌝ }
+{
+    let tick = le4(t, 8 * at);
+    let flow = le2(t, 8 * at + 4);
+    let length = le2(t, 8 * at + 6);
+    Event {
+        tick: tick,
+        flow: flow,
+        length: length,
+    }
+}
+
 // The run of the m events that stand at the start of a part of the file, from tick 0 and a fresh line,
-// into a lent list with room for its lines.
-pub fn run_events(t: &[u8], m: usize, table: Table, out: &mut [u64])
+// into lent lists with room for its lines and for the numbers beside them.
+pub fn run_events(t: &[u8], m: usize, table: Table, out: &mut [u64], beside: &mut [u64])
     requires { ⌜ (8 * m ≤ length (now t)) × (m ≤ mostEvents) ⌝ }
     requires { ⌜ Ranged table × (1 ≤ table .n) ⌝ }
-    requires { ⌜ 6 * (m + 1) ≤ length (now out) ⌝ }
+    requires { ⌜ (6 * (m + 1) ≤ length (now out)) × (m ≤ length (now beside)) ⌝ }
     ensures { λ _. ⌜
         now (out .exit)
         ≡ eventsListing table (eventsFrom (now (t .entry)) 0 m) ++ drop (6 * (m + 1)) (now (out .entry)) ⌝ }
+    ensures { λ _. ⌜
+        now (beside .exit)
+        ≡ eventsWaiting table (eventsFrom (now (t .entry)) 0 m) ++ drop m (now (beside .entry)) ⌝ }
 {
     let common = drr::common_of(table);
     let quanta = table.quanta;
     let maxima = table.maxima;
     let mut counts = [0u8; 16];
+    let mut sums = [0u32; 16];
     let mut deficits = [0u32; 16];
     let mut rows = [[0u16; 32]; 16];
     let mut spot = closed_at(common.n - 1);
@@ -182,11 +233,18 @@ pub fn run_events(t: &[u8], m: usize, table: Table, out: &mut [u64])
     let mut at: usize = 0;
     loop {
         if has_come(t, m, at, now) {
-            let tick = le4(t, 8 * at);
-            let flow = le2(t, 8 * at + 4);
-            let len = le2(t, 8 * at + 6);
-            let answer = engine::book(common, &maxima, &mut counts, &mut rows, flow, len as u32);
-            y = note(out, y, tick, flow, len, answer);
+            let e = event_at(t, at);
+            let answer = engine::book(
+                common,
+                &maxima,
+                &mut counts,
+                &mut sums,
+                &mut rows,
+                e.flow,
+                e.length as u32,
+            );
+            note_beside(beside, y, waiting_at(&sums, e.flow), answer);
+            y = note(out, y, e, answer);
             at += 1;
             continue;
         }
@@ -195,6 +253,7 @@ pub fn run_events(t: &[u8], m: usize, table: Table, out: &mut [u64])
             &quanta,
             &maxima,
             &mut counts,
+            &mut sums,
             &mut deficits,
             &mut rows,
             spot,
@@ -209,6 +268,7 @@ pub fn run_events(t: &[u8], m: usize, table: Table, out: &mut [u64])
             now = le4(t, 8 * at);
             continue;
         };
+        put_beside(beside, y, waiting_at(&sums, flow));
         y = send_line(out, y, now, flow, len, deficit, visits);
         now += widths::usize_of_u32(len);
     }

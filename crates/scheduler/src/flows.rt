@@ -41,11 +41,13 @@ pub fn fresh(table: Table) -> State
     let rows = [row; 16];
     let deficits = [0u32; 16];
     let counts = [0u8; 16];
+    let sums = [0u32; 16];
     State {
         table: table,
         line: Line {
             deficits: deficits,
             counts: counts,
+            sums: sums,
             place: place,
             opened: false,
             rows: rows,

@@ -64,6 +64,7 @@ pub fn sound_line(table: Table, line: Line) -> bool
     let quanta = table.quanta;
     let maxima = table.maxima;
     let counts = line.counts;
+    let sums = line.sums;
     let deficits = line.deficits;
     let packed = line.rows;
     let rows = cells_of(packed);
@@ -71,7 +72,16 @@ pub fn sound_line(table: Table, line: Line) -> bool
         place: line.place,
         opened: line.opened,
     };
-    engine::sound_in(common, &quanta, &maxima, &counts, &deficits, &rows, spot)
+    engine::sound_in(
+        common,
+        &quanta,
+        &maxima,
+        &counts,
+        &sums,
+        &deficits,
+        &rows,
+        spot,
+    )
 }
 
 // The arrival on a sound line.
@@ -83,9 +93,18 @@ fn arrival_line(table: Table, line: Line, flow: usize, length: u32) -> ArrivedLi
     let common = drr::common_of(table);
     let maxima = table.maxima;
     let mut counts = line.counts;
+    let mut sums = line.sums;
     let packed = line.rows;
     let mut rows = cells_of(packed);
-    let answer = engine::book(common, &maxima, &mut counts, &mut rows, flow, length);
+    let answer = engine::book(
+        common,
+        &maxima,
+        &mut counts,
+        &mut sums,
+        &mut rows,
+        flow,
+        length,
+    );
     let deficits = line.deficits;
     let back = rows_of(rows);
     ArrivedLine {
@@ -93,6 +112,7 @@ fn arrival_line(table: Table, line: Line, flow: usize, length: u32) -> ArrivedLi
         line: Line {
             deficits: deficits,
             counts: counts,
+            sums: sums,
             place: line.place,
             opened: line.opened,
             rows: back,
@@ -109,6 +129,7 @@ fn pick_line(table: Table, line: Line) -> PickedLine
     let quanta = table.quanta;
     let maxima = table.maxima;
     let mut counts = line.counts;
+    let mut sums = line.sums;
     let mut deficits = line.deficits;
     let packed = line.rows;
     let mut rows = cells_of(packed);
@@ -121,6 +142,7 @@ fn pick_line(table: Table, line: Line) -> PickedLine
         &quanta,
         &maxima,
         &mut counts,
+        &mut sums,
         &mut deficits,
         &mut rows,
         spot,
@@ -133,6 +155,7 @@ fn pick_line(table: Table, line: Line) -> PickedLine
         line: Line {
             deficits: deficits,
             counts: counts,
+            sums: sums,
             place: after.place,
             opened: after.opened,
             rows: back,

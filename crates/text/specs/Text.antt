@@ -37,17 +37,21 @@ abbrev pub rowText : List (List ℕ) → List ℕ
 rowText [] = []
 rowText (t ∷ ts) = t ++ restText ts
 
--- a number so, with the space before it; numbers so, and the newline
+-- a number so, with the space before it; numbers so; and these with the newline behind them
 abbrev pub fieldText : ℕ → List ℕ
 fieldText n = 32 ∷ decimal n
+
+abbrev pub spacedText : List ℕ → List ℕ
+spacedText [] = []
+spacedText (n ∷ ns) = fieldText n ++ spacedText ns
 
 abbrev pub fieldsText : List ℕ → List ℕ
 fieldsText ns = restText (map decimal ns)
 
--- a line in its form: the letter, then the first so many of its fields; no text for no form
-abbrev pub formText : Form → List ℕ → List ℕ
-formText (Line letter count) fields = letter ∷ fieldsText (take count fields)
-formText NoLine fields = []
+-- a line in its form: the letter, the first so many of its fields, and what stands beside it; no text for no form
+abbrev pub formText : Form → List ℕ → List ℕ → List ℕ
+formText (Line letter count) fields beside = letter ∷ fieldsText (take count fields ++ beside)
+formText NoLine fields beside = []
 
 -- how many fields a form prints
 abbrev pub fieldsIn : Form → ℕ
@@ -69,23 +73,34 @@ abbrev pub formIn : List (ℕ × Form) → ℕ → Form
 formIn [] kind = NoLine
 formIn (entry ∷ more) kind = cond (eqb kind (entry .0)) (entry .1) (formIn more kind)
 
--- "prints one line each": the text of a line by its kind and its five fields; none for a kind that no listing has
-unfoldable pub lineText : ℕ → List ℕ → List ℕ
-lineText kind five = formText (formIn kinds kind) five
+-- what stands beside a line: the first of the numbers that are left for it, if there is one; nothing beside line 3
+abbrev pub besideLine : ℕ → List ℕ → List ℕ
+besideLine kind beside = cond (eqb kind 3) [] (take 1 beside)
 
--- "six 64-bit numbers a line", line after line, up to and with line 3; fewer than six numbers at the end give nothing
-unfoldable pub listingText : List ℕ → List ℕ
-listingText [] = []
-listingText (k ∷ []) = []
-listingText (k ∷ a ∷ []) = []
-listingText (k ∷ a ∷ b ∷ []) = []
-listingText (k ∷ a ∷ b ∷ c ∷ []) = []
-listingText (k ∷ a ∷ b ∷ c ∷ d ∷ []) = []
-listingText (k ∷ a ∷ b ∷ c ∷ d ∷ e ∷ more) = lineText k (a ∷ b ∷ c ∷ d ∷ e ∷ []) ++ cond (eqb k 3) [] (listingText more)
+-- "prints one line each": the text of a line by its kind, its five fields and what is left to stand beside it; none for a kind that no
+-- listing has
+unfoldable pub lineText : ℕ → List ℕ → List ℕ → List ℕ
+lineText kind five beside = formText (formIn kinds kind) five (besideLine kind beside)
+
+-- "six 64-bit numbers a line", line after line, up to and with line 3, beside each the number that stands for it; fewer than six numbers
+-- at the end give nothing
+unfoldable pub besideText : List ℕ → List ℕ → List ℕ
+besideText [] beside = []
+besideText (k ∷ []) beside = []
+besideText (k ∷ a ∷ []) beside = []
+besideText (k ∷ a ∷ b ∷ []) beside = []
+besideText (k ∷ a ∷ b ∷ c ∷ []) beside = []
+besideText (k ∷ a ∷ b ∷ c ∷ d ∷ []) beside = []
+besideText (k ∷ a ∷ b ∷ c ∷ d ∷ e ∷ more) beside =
+    lineText k (a ∷ b ∷ c ∷ d ∷ e ∷ []) beside ++ cond (eqb k 3) [] (besideText more (drop 1 beside))
+
+-- a listing alone, with nothing beside its lines
+abbrev pub listingText : List ℕ → List ℕ
+listingText list = besideText list []
 
 -- "for a refused file one line `R number place`"
 abbrev pub refusalText : ℕ → ℕ → List ℕ
-refusalText number place = formText (Line 82 2) (number ∷ place ∷ [])
+refusalText number place = 82 ∷ fieldsText (number ∷ place ∷ [])
 
 -- ---- the rows of `drrfigures`
 -- numbers alone: parted by one space, a newline at the end; no text for no number
@@ -133,6 +148,10 @@ around front n back = front ++ decimal n ++ back
 -- which is room for any listing
 unfoldable pub listingWithin : List ℕ → ℕ → List ℕ
 listingWithin list room = cond (ltb (room / 18) (length list)) [] (listingText list)
+
+-- .. nothing, where it has fewer than that and 21 for each number beside it
+unfoldable pub besideWithin : List ℕ → List ℕ → ℕ → List ℕ
+besideWithin list beside room = cond (ltb room (18 * length list + 21 * length beside)) [] (besideText list beside)
 
 -- .. nothing, where it has fewer than 44, which is room for any refusal
 unfoldable pub refusalWithin : ℕ → ℕ → ℕ → List ℕ

@@ -5,8 +5,9 @@ ghost use Prim.Native.Nat.{_+_, _-_, _≤_};
 ghost use lib.ListN.{length};
 ghost use lib.Seq.{sets};
 ghost use Rattle.io.specs.Digits.{digits};
-ghost use Rattle.text.specs.Text.{decimal, fieldsText, formText, fieldsIn, kinds, formIn, listingText};
-ghost use Rattle.text.specs.Text.{aroundWithin, listingWithin, refusalWithin, numbersWithin, overlaid, Put, wordOf, same as sameOf};
+ghost use Rattle.text.specs.Text.{decimal, spacedText, fieldsText, formText, fieldsIn, kinds, formIn, besideLine, besideText};
+ghost use Rattle.text.specs.Text.{aroundWithin, listingWithin, besideWithin, refusalWithin, numbersWithin, overlaid, Put};
+ghost use Rattle.text.specs.Text.{wordOf, same as sameOf};
 ghost use Rattle.text.specs.Text.{restText, timeText, timedText, timedWithin, partedByte, parted};
 ghost use Rattle.text.specs.Text.{owedTitle, lastTitle, laterTitles, titlesWithin};
 ghost use Rattle.text.specs.Text.{places as Text·places};
@@ -52,10 +53,10 @@ fn put_number(buf: &mut [u8], at: usize, n: u64) -> usize
     at + k
 }
 
-// Numbers, each with the space before it, and the newline.
-fn put_fields(fields: &[u64], buf: &mut [u8], start: usize) -> usize
-    requires { ⌜ start + length (fieldsText (now fields)) ≤ length (now buf) ⌝ }
-    ensures { λ r. ⌜ Put (now (buf .entry)) start (fieldsText (now (fields .entry))) (now (buf .exit)) r ⌝ }
+// Numbers, each with the space before it.
+fn put_spaced(fields: &[u64], buf: &mut [u8], start: usize) -> usize
+    requires { ⌜ start + length (spacedText (now fields)) ≤ length (now buf) ⌝ }
+    ensures { λ r. ⌜ Put (now (buf .entry)) start (spacedText (now (fields .entry))) (now (buf .exit)) r ⌝ }
 {
     let mut at = start;
     let mut done: usize = 0;
@@ -64,6 +65,15 @@ fn put_fields(fields: &[u64], buf: &mut [u8], start: usize) -> usize
         at = put_number(buf, at + 1, fields[done]);
         done += 1;
     }
+    at
+}
+
+// .. and the newline.
+fn put_fields(fields: &[u64], buf: &mut [u8], start: usize) -> usize
+    requires { ⌜ start + length (fieldsText (now fields)) ≤ length (now buf) ⌝ }
+    ensures { λ r. ⌜ Put (now (buf .entry)) start (fieldsText (now (fields .entry))) (now (buf .exit)) r ⌝ }
+{
+    let at = put_spaced(fields, buf, start);
     buf[at] = b'\n';
     at + 1
 }
@@ -74,17 +84,18 @@ enum Form {
     NoLine,
 }
 
-// A line in its form.
-fn put_line(form: Form, fields: &[u64], buf: &mut [u8], at: usize) -> usize
+// A line in its form, with what stands beside it.
+fn put_line(form: Form, fields: &[u64], beside: &[u64], buf: &mut [u8], at: usize) -> usize
     requires { ⌜ fieldsIn form ≤ length (now fields) ⌝ }
-    requires { ⌜ at + length (formText form (now fields)) ≤ length (now buf) ⌝ }
-    ensures { λ r. ⌜ Put (now (buf .entry)) at (formText form (now (fields .entry))) (now (buf .exit)) r ⌝ }
+    requires { ⌜ at + length (formText form (now fields) (now beside)) ≤ length (now buf) ⌝ }
+    ensures { λ r. ⌜ Put (now (buf .entry)) at (formText form (now (fields .entry)) (now (beside .entry))) (now (buf .exit)) r ⌝ }
 {
     let Form::Line(letter, count) = form else {
         return at;
     };
     buf[at] = letter;
-    put_fields(&fields[..count], buf, at + 1)
+    let end = put_spaced(&fields[..count], buf, at + 1);
+    put_fields(beside, buf, end)
 }
 
 // The table of a listing's lines, by their kind.
@@ -99,20 +110,37 @@ fn form_of(kind: u64) -> Form
     }
 }
 
-// Line after line, up to and with line 3.
-fn put_lines(list: &[u64], buf: &mut [u8]) -> usize
-    requires { ⌜ length (listingText (now list)) ≤ length (now buf) ⌝ }
-    ensures { λ r. ⌜ Put (now (buf .entry)) 0 (listingText (now (list .entry))) (now (buf .exit)) r ⌝ }
+// How many of the numbers that are left stand beside a line: the first, if there is one; none beside
+// line 3.
+fn beside_line(kind: u64, beside: &[u64]) -> usize
+    ensures { λ r. ⌜ r ≡ length (besideLine kind (now (beside .entry))) ⌝ }
+{
+    if kind == 3 {
+        return 0;
+    }
+    if beside.len() == 0 {
+        return 0;
+    }
+    1
+}
+
+// Line after line, up to and with line 3, with the number that stands beside each.
+fn put_lines(list: &[u64], beside: &[u64], buf: &mut [u8]) -> usize
+    requires { ⌜ length (besideText (now list) (now beside)) ≤ length (now buf) ⌝ }
+    ensures { λ r. ⌜ Put (now (buf .entry)) 0 (besideText (now (list .entry)) (now (beside .entry))) (now (buf .exit)) r ⌝ }
 {
     let mut at: usize = 0;
     let mut rest = list;
+    let mut left = beside;
     while 6 <= rest.len() {
         let kind = rest[0];
-        at = put_line(form_of(kind), &rest[1..6], buf, at);
+        let n = beside_line(kind, left);
+        at = put_line(form_of(kind), &rest[1..6], &left[..n], buf, at);
         if kind == 3 {
             return at;
         }
         rest = &rest[6..];
+        left = &left[n..];
     }
     at
 }
@@ -127,7 +155,26 @@ pub fn listing_text(list: &[u64], buf: &mut [u8]) -> usize
     if buf.len() / 18 < list.len() {
         return 0;
     }
-    put_lines(list, buf)
+    put_lines(list, &list[..0], buf)
+}
+
+// The same with a column more: the numbers beside the list, one for each line before line 3, as the last
+// field of that line; a line has none where they are fewer. Nothing, and 0, where the buffer has fewer
+// than 18 bytes for each number of the list and 21 for each beside it.
+pub fn beside_text(list: &[u64], beside: &[u64], buf: &mut [u8]) -> usize
+    ensures { λ r. ⌜ r ≡ length
+        (besideWithin (now (list .entry)) (now (beside .entry)) (length (now (buf .entry)))) ⌝ }
+    ensures { λ r. ⌜ now (buf .exit) ≡
+        overlaid (besideWithin (now (list .entry)) (now (beside .entry)) (length (now (buf .entry))))
+        (now (buf .entry)) ⌝ }
+{
+    if buf.len() / 18 < list.len() {
+        return 0;
+    }
+    if (buf.len() - 18 * list.len()) / 21 < beside.len() {
+        return 0;
+    }
+    put_lines(list, beside, buf)
 }
 
 // The line of a refusal at the start of a lent buffer of 44 bytes at least, and how many bytes it has;
@@ -141,7 +188,8 @@ pub fn refusal_text(number: u64, place: u64, buf: &mut [u8]) -> usize
         return 0;
     }
     let fields = [number, place];
-    put_line(Form::Line(b'R', 2), &fields, buf, 0)
+    buf[0] = b'R';
+    put_fields(&fields, buf, 1)
 }
 
 // The text of numbers alone at the start of a lent buffer, and how many bytes it has; nothing, and 0,

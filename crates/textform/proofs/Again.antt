@@ -13,14 +13,14 @@ use Rattle.drr.proofs.Bools.{by-test}
 use Rattle.drr.proofs.Tables.{InRange}
 use Rattle.runfile.specs.File.{Event}
 use Rattle.text.specs.declared.Word.the-variants.{Number}
-use Rattle.text.specs.Text.{places, decimal, fieldText, fieldsText, mostNumber}
+use Rattle.text.specs.Text.{places, decimal, spacedText, fieldsText, mostNumber}
 use Rattle.text.proofs.Texts.{decimal-length}
+use Rattle.text.proofs.Lines.{fields-parts}
 use Rattle.text.proofs.Words.{decimal-read}
 use Rattle.textform.specs.declared.Want.the-variants as want
 use Rattle.textform.specs.declared.Item.the-variants.{FlowOf, EventOf}
 use Rattle.textform.specs.Grammar.{linesFrom, linesOf, uncommented, ended, wordsFrom, wordsOf, flowWord, eventWord}
 use Rattle.textform.specs.Grammar.{inRange, field, given, mostOf4, mostOf2, itemIn, itemOf}
-use Rattle.textform.specs.Made.{each}
 use Rattle.textform.specs.Shown.{flowText, eventText}
 use Rattle.textform.proofs.Drafts.{All, InFields}
 
@@ -82,40 +82,32 @@ ended-some [] ws h = absurd (omega arith)
 ended-some (b ∷ w) ws h = refl
 
 -- numbers behind a word, a space before each
-abbrev fields : List ℕ → List ℕ
-fields ns = each fieldText ns
-
-fields-words : (w : List ℕ) (ns : List ℕ) → 0 < length w → wordsFrom w (fields ns) ≡ w ∷ map decimal ns
+fields-words : (w : List ℕ) (ns : List ℕ) → 0 < length w → wordsFrom w (spacedText ns) ≡ w ∷ map decimal ns
 fields-words w [] h = ended-some w [] h
 fields-words w (n ∷ ns) h =
-    ended-some w (wordsFrom [] (decimal n ++ fields ns)) h
-    ∙ ap (λ (ws : List (List ℕ)). w ∷ ws) (word-on [] (decimal n) (fields ns) (decimal-plain n)
+    ended-some w (wordsFrom [] (decimal n ++ spacedText ns)) h
+    ∙ ap (λ (ws : List (List ℕ)). w ∷ ws) (word-on [] (decimal n) (spacedText ns) (decimal-plain n)
     ∙ fields-words (decimal n) ns (decimal-some n))
 
-fields-within : (ns : List ℕ) → Within (fields ns)
+fields-within : (ns : List ℕ) → Within (spacedText ns)
 fields-within [] = tt
 fields-within (n ∷ ns) =
     let digits-within = plain-within (decimal n) (decimal-plain n) in
-    ((λ e. omega arith, λ e. omega arith), within-both (decimal n) (fields ns) digits-within (fields-within ns))
-
-fields-end : (ns : List ℕ) → fieldsText ns ≡ fields ns ++ 10 ∷ []
-fields-end [] = refl
-fields-end (n ∷ ns) =
-    ap (λ (l : List ℕ). fieldText n ++ l) (fields-end ns) ∙ sym (append-assoc (fieldText n) (fields ns) (10 ∷ []))
+    ((λ e. omega arith, λ e. omega arith), within-both (decimal n) (spacedText ns) digits-within (fields-within ns))
 
 -- ---- a line of a word and numbers: the text's first line, and what it says
 module _ (word ns : List ℕ) (plain : Plain word) (some : 0 < length word) where
   abbrev line : List ℕ
-  line = word ++ fields ns
+  line = word ++ spacedText ns
 
   within : Within line
-  within = within-both word (fields ns) (plain-within word plain) (fields-within ns)
+  within = within-both word (spacedText ns) (plain-within word plain) (fields-within ns)
 
   line-split : (rest : List ℕ) → linesOf ((word ++ fieldsText ns) ++ rest) ≡ line ∷ linesOf rest
   line-split rest =
       let e : (word ++ fieldsText ns) ++ rest ≡ line ++ 10 ∷ rest =
-      ap (λ (l : List ℕ). (word ++ l) ++ rest) (fields-end ns)
-      ∙ ap (λ (l : List ℕ). l ++ rest) (sym (append-assoc word (fields ns) (10 ∷ [])))
+      ap (λ (l : List ℕ). (word ++ l) ++ rest) (fields-parts ns)
+      ∙ ap (λ (l : List ℕ). l ++ rest) (sym (append-assoc word (spacedText ns) (10 ∷ [])))
       ∙ append-assoc line (10 ∷ []) rest in
       ap linesOf e ∙ first-line [] line rest within
 
@@ -123,7 +115,7 @@ module _ (word ns : List ℕ) (plain : Plain word) (some : 0 < length word) wher
   unfolding itemOf
   line-item =
       ap (λ (l : List ℕ). itemIn (wordsOf l)) (no-comment line within)
-      ∙ ap itemIn (word-on [] word (fields ns) plain ∙ fields-words word ns some)
+      ∙ ap itemIn (word-on [] word (spacedText ns) plain ∙ fields-words word ns some)
 
 -- ---- a record's line
 field-read : (least most n : ℕ) → least ≤ n → n ≤ most → n ≤ mostNumber → field least most (decimal n) ≡ Number n
@@ -131,10 +123,10 @@ field-read least most n low high fits =
     ap (inRange least most) (decimal-read n fits) ∙ rw (le-leb least n low, le-leb n most high)
 
 abbrev pub flowLine : FlowRecord → List ℕ
-flowLine r = flowWord ++ each fieldText (r .quantum ∷ r .maximum ∷ [])
+flowLine r = flowWord ++ spacedText (r .quantum ∷ r .maximum ∷ [])
 
 abbrev pub eventLine : Event → List ℕ
-eventLine e = eventWord ++ each fieldText (e .tick ∷ e .flow ∷ e .length ∷ [])
+eventLine e = eventWord ++ spacedText (e .tick ∷ e .flow ∷ e .length ∷ [])
 
 flow-word : Plain flowWord
 flow-word = (omega arith, (omega arith, (omega arith, (omega arith, tt))))

@@ -3,7 +3,7 @@ use mathlib.Core.List.{List}
 use Prim.Native.Nat.{ℕ, _≤_}
 use native.Mathlib.Omega.{arith}
 use borrow.Author.Needs.{needs}
-use lib.ListN.{length, length-replicate}
+use lib.ListN.{length, length-replicate, replicate}
 use Rattle.drr.specs.Answers.{Answer, verdictPaper}
 use Rattle.text.specs.Text.{listingText}
 use Rattle.answers.specs.Printed.{runRoom}
@@ -52,7 +52,7 @@ returns-3 c =
     given _ _ (buf x) _ _
     (listing-fits _ _ (omega (arith, room x, x .run .kept .1 .0, length-replicate {A = ℕ} 6150 0))
     ∙ ap listingText (x .run .ensures .1)
-    ∙ run-listing (file x) _ (omega (arith, length-replicate {A = ℕ} 6150 0)) fine
+    ∙ run-listing (file x) (replicate 6150 0) (omega (arith, length-replicate {A = ℕ} 6150 0)) fine
     ∙ run-fits (file x) (length (buf x)) (room x))
     (t .listing-text .ensures)
 

@@ -33,12 +33,22 @@ cast-rows c =
     let s = e .before .before .before in
     omega (arith, s .pre .maxima-most (s .args .flow) (e .before .if1 .left), i .if3 .left)
 
+-- the sum has room for one length more
+add-sums : tie.Need-add-sums
+add-sums c =
+    let i = c .before .before .before in
+    let e = i .before .before in
+    let s = e .before .before .before in
+    let in-table = e .before .if1 .left in
+    omega (arith, s .pre .sums-most (s .args .flow) in-table, s .pre .maxima-most (s .args .flow) in-table, i .if3 .left)
+
 returns-5 : tie.Need-returns-5
 unfolding arrivalOf
 returns-5 c =
-    let i = c .before .before in
+    let b = c .before in
+    let i = b .before .before in
     let e = i .before .before in
-    λ qs ds sp. simp (lt-leb _ _ (e .before .if1 .left), ne-eqb _ _ (e .if2 .left), le-ltb _ _ (i .if3 .left), lt-leb _ _ (c .if4 .left))
+    λ qs ds sp. simp (lt-leb _ _ (e .before .if1 .left), ne-eqb _ _ (e .if2 .left), le-ltb _ _ (i .if3 .left), lt-leb _ _ (b .if4 .left))
 
 pub book-spec : {M : Type 1} → statement M
 book-spec =
@@ -57,6 +67,11 @@ book-spec =
     (λ c. search needs)
     (λ c. search needs)
     (λ c. search needs)
+    (λ c. search needs)
+    (λ c. search needs)
+    (λ c. search needs)
+    (λ c. search needs)
+    add-sums
     (λ c. search needs)
     (λ c. search needs)
     returns-5)

@@ -10,23 +10,23 @@ use Rattle.drr.specs.Limits.{mostFlows, mostMaxima}
 use Rattle.drr.specs.State.{Line, common, tableOf, lineOf, spotAt, quantumOf, deficitOf, oldestCharge}
 use Rattle.drr.specs.Pick.{next}
 use Rattle.drr.proofs.Steps.{sound-place}
-use Rattle.drr.proofs.Sums.{sumOf}
+use Rattle.drr.proofs.Sums.{overFlows}
 use Rattle.engine.proofs.Loop.{Along, along-first, along-idles, along-on, along-falls, along-sends}
 use Rattle.engine.proofs.Loop.{room, flow-low, fits, sendable}
 use Rattle.engine.proofs.look.Statement.{statement}
 use Rattle.engine.proofs.look.Tie as tie
 
 -- the line in the arrays between two visits
-abbrev between : List ℕ → List ℕ → List (List ℕ) → ℕ → Line
-between counts deficits rows place = lineOf counts deficits rows (spotAt place false)
+abbrev between : List ℕ → List ℕ → List ℕ → List (List ℕ) → ℕ → Line
+between counts sums deficits rows place = lineOf counts sums deficits rows (spotAt place false)
 
 abbrev Inv-loop : tie.InvT-loop
-Inv-loop quanta maxima counts₀ deficits₀ rows₀ start n place₀ visits₀ counts deficits rows place visits =
-    Along (tableOf (common n) quanta maxima) (between counts₀ deficits₀ rows₀ start) (between counts deficits rows place) visits
+Inv-loop quanta maxima counts₀ sums₀ deficits₀ rows₀ start n place₀ visits₀ counts sums deficits rows place visits =
+    Along (tableOf (common n) quanta maxima) (between counts₀ sums₀ deficits₀ rows₀ start) (between counts sums deficits rows place) visits
 
 abbrev μ-loop : tie.MeasureT-loop
-μ-loop quanta maxima counts₀ deficits₀ rows₀ start n place₀ visits₀ counts deficits rows place visits =
-    mostMaxima - sumOf deficits
+μ-loop quanta maxima counts₀ sums₀ deficits₀ rows₀ start n place₀ visits₀ counts sums deficits rows place visits =
+    mostMaxima - overFlows deficits
 
 place-low : (a : tie.At-loop Inv-loop μ-loop) → a .loop .place < mostFlows
 place-low a = sound-place (a .loop .inv .sound)
@@ -43,10 +43,10 @@ module _ (k : tie.After-known-told Inv-loop μ-loop) where
   T = tableOf (A .before .args .common) (A .before .args .quanta .now) (A .before .args .maxima .now)
 
   abbrev S : Line
-  S = between (A .before .args .counts .now) (A .before .args .deficits .now) (A .before .args .rows .now) (A .before .args .start)
+  S = let a = A .before .args in between (a .counts .now) (a .sums .now) (a .deficits .now) (a .rows .now) (a .start)
 
   abbrev L : Line
-  L = between (A .loop .counts) (A .loop .deficits) (A .loop .rows) (A .loop .place)
+  L = between (A .loop .counts) (A .loop .sums) (A .loop .deficits) (A .loop .rows) (A .loop .place)
 
   abbrev F : ℕ
   F = k .before .found .given .0 .0
@@ -82,18 +82,18 @@ returns c =
     let a = c .before .before .before .before in
     let i = a .before .args in
     along-idles (tableOf (i .common) (i .quanta .now) (i .maxima .now)) _
-    (between (a .loop .counts) (a .loop .deficits) (a .loop .rows) (a .loop .place)) (a .loop .visits) (a .loop .inv) refl
+    (between (a .loop .counts) (a .loop .sums) (a .loop .deficits) (a .loop .rows) (a .loop .place)) (a .loop .visits) (a .loop .inv) refl
     (sym (c .before .before .next-waiting .ensures) ∙ c .enum-told .given .1)
 
 send-requires : tie.Need-send-requires Inv-loop μ-loop
 send-requires c κs =
-    let e = c .before .before .before in
+    let e = c .before .before .before .before in
     let k = K (e .before .before .before) in
     sendable (T k) (S k) (L k) (A k .loop .visits) (A k .loop .inv) refl (F k) (at-flow k) (enough e)
 
 returns-2 : tie.Need-returns-2 Inv-loop μ-loop
 returns-2 c =
-    let e = c .before .before .before .before in
+    let e = c .before .before .before .before .before in
     let k = K (e .before .before .before) in
     c .send .ensures ∙ along-sends (T k) (S k) (L k) (A k .loop .visits) (A k .loop .inv) refl (F k) (at-flow k) (enough e)
 

@@ -15,7 +15,7 @@ module _ (c : tie.Start) where
   T = tableOf (c .args .common) (c .args .quanta .now) (c .args .maxima .now)
 
   abbrev S : Line
-  S = lineOf (c .args .counts .now) (c .args .deficits .now) (c .args .rows .now) (c .args .spot)
+  S = lineOf (c .args .counts .now) (c .args .sums .now) (c .args .deficits .now) (c .args .rows .now) (c .args .spot)
 
 low : (c : tie.Start) → c .args .spot .place < 16
 low c = sound-place (c .pre)
@@ -53,21 +53,21 @@ module _ (e : tie.Then3) where
 
 send-requires : tie.Need-send-requires
 send-requires c κs =
-    let e = c .before .before .before in
+    let e = c .before .before .before .before in
     let s = O e .before in
     ready (T s) (S s) (s .pre) (O e .if1 .taken) (I e .if2 .taken) (enough e)
 
 returns : tie.Need-returns
 returns c =
-    let e = c .before .before .before .before in
+    let e = c .before .before .before .before .before in
     let s = O e .before in
     c .send .ensures ∙ goes (T s) (S s) (s .pre) (O e .if1 .taken) (I e .if2 .taken) (enough e)
 
 look-requires : tie.Need-look-requires
-look-requires c κs = ends (c .before .before .before) .sound
+look-requires c κs = ends (c .before .before .before .before) .sound
 
 returns-2 : tie.Need-returns-2
-returns-2 c = c .look .ensures ∙ ends (c .before .before .before .before) .same
+returns-2 c = c .look .ensures ∙ ends (c .before .before .before .before .before) .same
 
 pub pick-in-spec : {M : Type 1} → statement M
 pick-in-spec =

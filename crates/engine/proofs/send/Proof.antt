@@ -6,10 +6,10 @@ use Rattle.engine.proofs.send.Tie as tie
 
 returns : tie.Need-returns
 returns c =
-    let s = c .before .before .before .before .before in
+    let s = c .before .before .before .before .before .before in
     let a = s .args in
-    send-law (a .counts .now) (a .deficits .now) (a .rows .now) _ (a .f) (a .visits) _ _
-    (omega (arith, s .pre .size)) (c .before .before .charge-of .ensures) (c .shifted .ensures)
+    send-law (a .counts .now) (a .sums .now) (a .deficits .now) (a .rows .now) _ (a .f) (a .visits) _ _
+    (omega (arith, s .pre .size)) (c .before .before .before .charge-of .ensures) (c .shifted .ensures)
 
 pub send-spec : {M : Type 1} → statement M
 send-spec =
@@ -21,6 +21,12 @@ send-spec =
     (λ c. search needs)
     (λ c. search needs)
     (λ c κs. search needs)
+    (λ c. search needs)
+    (λ c. search needs)
+    (λ c. search needs)
+    (λ c. search needs)
+    (λ c. search needs)
+    (λ c. search needs)
     (λ c. search needs)
     (λ c. search needs)
     (λ c. search needs)

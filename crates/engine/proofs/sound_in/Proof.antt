@@ -1,33 +1,37 @@
-use Prim.Native.Nat.{_≤_, _<_, _-_}
+use Prim.Native.Nat.{ℕ, _*_, _-_, _≤_, _<_}
 use mathlib.Core.Path.{_≡_, refl, _∙_}
-use mathlib.Core.Bool.{true}
+use mathlib.Core.Bool.{true, false}
+use mathlib.Core.List.{[]}
 use borrow.Author.Needs.{needs}
 use native.Mathlib.Omega.{arith}
 use lib.Dec.{lit≤}
+use lib.ListN.{getD, take}
 use Rattle.drr.specs.declared.Table.{Table}
 use Rattle.drr.specs.Limits.{mostFlows, mostWaiting}
-use Rattle.drr.specs.State.{Line, common, tableOf, lineOf, spotAt}
+use Rattle.drr.specs.State.{Line, common, tableOf, lineOf, spotAt, sumOf, bytesOf}
 use Rattle.drr.specs.Sound.{all, cellsb, flowb}
 use Rattle.drr.proofs.Bools.{refuted, passed, all-none, all-more}
-use Rattle.engine.proofs.Tests.{head-fault, flow-fault, no-fault, numbers-fault, cell-fault, flow-good}
+use Rattle.engine.proofs.Tests.{head-fault, flow-fault, no-fault, numbers-fault, cell-fault}
+use Rattle.engine.proofs.Tests.{bytes-on, sum-fault, flow-good}
 use Rattle.engine.proofs.sound_in.Statement.{statement}
 use Rattle.engine.proofs.sound_in.Tie as tie
 
 abbrev Inv-loop : tie.InvT-loop
-Inv-loop quanta maxima counts deficits rows n place opened ok₀ f maximum count k₀ ok k =
+Inv-loop quanta maxima counts sums deficits rows n place opened ok₀ f maximum count bytes₀ k₀ ok bytes k =
     (k ≤ mostWaiting) × (ok ≡ true)
-    × (all k (cellsb (tableOf (common n) quanta maxima) (lineOf counts deficits rows (spotAt place opened)) f) ≡ true)
+    × (all k (cellsb (tableOf (common n) quanta maxima) (lineOf counts sums deficits rows (spotAt place opened)) f) ≡ true)
+    × (bytes ≡ bytesOf (take k (getD rows f []))) × (bytes ≤ k * 65535)
 
 abbrev μ-loop : tie.MeasureT-loop
-μ-loop quanta maxima counts deficits rows n place opened ok₀ f maximum count k₀ ok k = mostWaiting - k
+μ-loop quanta maxima counts sums deficits rows n place opened ok₀ f maximum count bytes₀ k₀ ok bytes k = mostWaiting - k
 
 abbrev Inv-flows : tie.InvT-flows
-Inv-flows quanta maxima counts deficits rows n place opened ok₀ f₀ ok f =
+Inv-flows quanta maxima counts sums deficits rows n place opened ok₀ f₀ ok f =
     (f ≤ mostFlows) × (ok ≡ true)
-    × (all f (flowb (tableOf (common n) quanta maxima) (lineOf counts deficits rows (spotAt place opened))) ≡ true)
+    × (all f (flowb (tableOf (common n) quanta maxima) (lineOf counts sums deficits rows (spotAt place opened))) ≡ true)
 
 abbrev μ-flows : tie.MeasureT-flows
-μ-flows quanta maxima counts deficits rows n place opened ok₀ f₀ ok f = mostFlows - f
+μ-flows quanta maxima counts sums deficits rows n place opened ok₀ f₀ ok f = mostFlows - f
 
 -- the table and the line in the arrays
 module _ (c : tie.Start Inv-loop μ-loop Inv-flows μ-flows) where
@@ -35,7 +39,7 @@ module _ (c : tie.Start Inv-loop μ-loop Inv-flows μ-flows) where
   T = tableOf (c .args .common) (c .args .quanta .now) (c .args .maxima .now)
 
   abbrev L : Line
-  L = lineOf (c .args .counts .now) (c .args .deficits .now) (c .args .rows .now) (c .args .spot)
+  L = lineOf (c .args .counts .now) (c .args .sums .now) (c .args .deficits .now) (c .args .rows .now) (c .args .spot)
 
 abbrev at-flows : tie.Else2 Inv-loop μ-loop Inv-flows μ-flows → tie.At-flows Inv-loop μ-loop Inv-flows μ-flows
 at-flows e = e .before .before .before .before .before .before .before .before
@@ -51,21 +55,50 @@ returns c =
 loop-again : tie.Need-loop-again Inv-loop μ-loop Inv-flows μ-flows
 unfolding cellsb
 loop-again c =
-    let i = c .before .before .before .before .loop in
-    (omega arith, i .inv .1, all-more (i .k) _ (i .inv .2) (passed (c .before .cell-ok .ensures) (c .if3 .left)))
+    let e = c .before in
+    let i = e .before .before .before .before .loop in
+    let w = c .with-length .ensures in (
+      omega arith,
+      i .inv .1,
+      all-more (i .k) _ (i .inv .2) (passed (e .before .cell-ok .ensures) (e .if3 .left)),
+      bytes-on _ (i .k) (i .inv .3) (w .0),
+      omega (arith, i .inv .4, w .1),
+    )
+
+-- a flow whose numbers and cells have passed, with its bytes added up: the sum is left to judge by
+module _ (h : tie.After-loop Inv-loop μ-loop Inv-flows μ-flows) where
+  abbrev E : tie.Else2 Inv-loop μ-loop Inv-flows μ-flows
+  E = h .before .before
+
+  abbrev O : tie.At-flows Inv-loop μ-loop Inv-flows μ-flows
+  O = at-flows E
+
+  abbrev S : tie.Start Inv-loop μ-loop Inv-flows μ-flows
+  S = O .before .before .before
+
+  abbrev sum : ℕ
+  sum = sumOf (L S) (O .flows .f)
+
+  whole : h .before .loop .k ≡ mostWaiting
+  whole = omega arith
+
+  sum-true : h .before .loop .bytes ≡ sum → flowb (T S) (L S) (O .flows .f) ≡ true
+  sum-true =
+      let i = h .before .loop .inv in
+      flow-good (T S) (L S) (O .flows .f) (passed (E .before .numbers-ok .ensures) (E .if2 .left)) (rw whole at (i .2)) _
+      (rw whole at (i .3))
+
+  sum-false : (h .before .loop .bytes ≡ sum → ⊥) → flowb (T S) (L S) (O .flows .f) ≡ false
+  sum-false =
+      let i = h .before .loop .inv in
+      sum-fault (T S) (L S) (O .flows .f) (passed (E .before .numbers-ok .ensures) (E .if2 .left)) (rw whole at (i .2)) _
+      (rw whole at (i .3))
 
 flows-again : tie.Need-flows-again Inv-loop μ-loop Inv-flows μ-flows
 flows-again c =
-    let i = c .before .loop in
-    let d = c .before .before in
-    let o = at-flows d in
-    let e : i .k ≡ 32 = omega arith in
-    let s = o .before .before .before in
-    let numbers = passed (d .before .numbers-ok .ensures) (d .if2 .left) in (
-      omega arith,
-      i .inv .1,
-      all-more (o .flows .f) _ (o .flows .inv .2) (flow-good (T s) (L s) (o .flows .f) numbers (rw e at (i .inv .2))),
-    )
+    let h = c .before .before in
+    let o = O h .flows in
+    (omega (arith, flow-in (E h)), h .before .loop .inv .1, all-more (o .f) _ (o .inv .2) (sum-true h (c .if4 .left)))
 
 returns-2 : tie.Need-returns-2 Inv-loop μ-loop Inv-flows μ-flows
 returns-2 c =
@@ -91,6 +124,11 @@ returns-4 c =
     let fault = refuted (c .before .cell-ok .ensures) (c .if3 .taken) in
     flow-fault (T s) (L s) (o .flows .f) (flow-in (l .before)) (cell-fault (T s) (L s) (o .flows .f) (l .loop .k) (omega arith) fault)
 
+returns-5 : tie.Need-returns-5 Inv-loop μ-loop Inv-flows μ-flows
+returns-5 c =
+    let h = c .before .before in
+    flow-fault (T (S h)) (L (S h)) (O h .flows .f) (flow-in (E h)) (sum-false h (c .if4 .taken))
+
 pub sound-in-spec : {M : Type 1} → statement M
 sound-in-spec =
     tie.close
@@ -113,18 +151,22 @@ sound-in-spec =
     (λ c. search needs)
     (λ c. search needs)
     (λ c κs. search needs)
-    (λ c. (lit≤ tt, at-flows c .flows .inv .1, all-none _))
+    (λ c. (lit≤ tt, at-flows c .flows .inv .1, all-none _, refl, lit≤ tt))
     (λ c. search needs)
     (λ c. search needs)
     (λ c. search needs)
     (λ c. search needs)
     (λ c κs. search needs)
+    (λ c κs. let i = c .before .before .before .before .loop in omega (arith, i .inv .4))
     (λ c. search needs)
     (λ c. search needs)
     loop-again
     (λ c. search needs)
     (λ c. search needs)
+    (λ c. search needs)
+    (λ c. search needs)
     flows-again
     returns-2
     returns-3
-    returns-4)
+    returns-4
+    returns-5)

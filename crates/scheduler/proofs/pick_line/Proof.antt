@@ -12,7 +12,7 @@ use Rattle.scheduler.proofs.pick_line.Tie as tie
 -- the table and the line, as they are lent
 module _ (k : tie.After-cells-of) where
   abbrev M : tie.After-common-of
-  M = k .before .before .before .before .before .before
+  M = k .before .before .before .before .before .before .before
 
   abbrev S : tie.Start
   S = M .before
@@ -23,22 +23,22 @@ module _ (k : tie.After-cells-of) where
   abbrev lent : Line
   lent =
       let l = S .args .line in
-      lineOf (l .counts) (l .deficits) (k .cells-of .result) (spotAt (l .place) (l .opened))
+      lineOf (l .counts) (l .sums) (l .deficits) (k .cells-of .result) (spotAt (l .place) (l .opened))
 
   line-is : lent ≡ lineIn (S .args .line)
   line-is = line-apart (S .args .line) _ (k .cells-of .ensures)
 
 pick-in-requires : tie.Need-pick-in-requires
 pick-in-requires c κs =
-    let k = c .before .before .before .before .before in
+    let k = c .before .before .before .before .before .before in
     subst⁻¹ (λ (T : Table). Sound T (lent k)) (table-is k) (subst⁻¹ (Sound (S k .args .table)) (line-is k) (S k .pre))
 
 returns : tie.Need-returns
 returns c =
     let p = c .before .before in
-    let k = p .before .before .before .before .before .before in
+    let k = p .before .before .before .before .before .before .before in
     let after = p .pick-in .result .spot in
-    let whole = line-whole _ _ _ (after .place) (after .opened) _ (c .rows-of .ensures) in
+    let whole = line-whole _ _ _ _ (after .place) (after .opened) _ (c .rows-of .ensures) in
     ap (λ (l : Line). outcome (pickPaper (p .pick-in .result .answer)) l) whole
     ∙ p .pick-in .ensures
     ∙ (λ i. pickOf (table-is k i) (line-is k i))

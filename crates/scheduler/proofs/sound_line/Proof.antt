@@ -7,8 +7,8 @@ use Rattle.scheduler.proofs.sound_line.Tie as tie
 
 returns : tie.Need-returns
 returns c =
-    let k = c .before .before .before .before .before .before in
-    let m = k .before .before .before .before .before .before in
+    let k = c .before .before .before .before .before .before .before in
+    let m = k .before .before .before .before .before .before .before in
     let a = m .before .args in
     let table = table-apart (a .table) (m .common-of .ensures) in
     let line = line-apart (a .line) _ (k .cells-of .ensures) in

@@ -10,9 +10,9 @@ use Rattle.runfile.proofs.turns.note.Tie as tie
 returns : tie.Need-returns
 returns c =
     let a = c .before .before .before .before .args in
-    let n = noted-none (a .out .now) (a .y .sent + a .y .refused) (a .tick) (a .flow) (a .len) (a .answer)
+    let n = noted-none (a .out .now) (a .y .sent + a .y .refused) (a .e .tick) (a .e .flow) (a .e .length) (a .answer)
     (c .before .enum-told .given .1) in
-    (c .after-event .ensures ∙ ap (λ (x : ℕ). afterEvent (a .tick) x (a .y)) (n .0), n .1)
+    (c .after-event .ensures ∙ ap (λ (x : ℕ). afterEvent (a .e .tick) x (a .y)) (n .0), n .1)
 
 returns-2 : tie.Need-returns-2
 returns-2 c =
@@ -21,10 +21,10 @@ returns-2 c =
     let r = w .before .before .before in
     let k = r .before .before in
     let a = k .before .before .before .args in
-    let n = noted-some (a .out .now) (a .y .sent + a .y .refused) (a .tick) (a .flow) (a .len) (a .answer) (k .answer .given .0 .0)
-    (k .answer .given .1)
+    let n = noted-some (a .out .now) (a .y .sent + a .y .refused) (a .e .tick) (a .e .flow) (a .e .length) (a .answer)
+    (k .answer .given .0 .0) (k .answer .given .1)
     (r .refusal-number .result) _ (r .refusal-number .ensures) (w .usize-of-u32 .ensures .0) _ (p .put-line .ensures) in
-    (c .after-event2 .ensures ∙ ap (λ (x : ℕ). afterEvent (a .tick) x (a .y)) (n .0), n .1)
+    (c .after-event2 .ensures ∙ ap (λ (x : ℕ). afterEvent (a .e .tick) x (a .y)) (n .0), n .1)
 
 pub note-spec : {M : Type 1} → statement M
 note-spec =

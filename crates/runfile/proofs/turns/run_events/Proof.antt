@@ -1,6 +1,6 @@
 use mathlib.Core.Path.{_≡_, refl, ap, _∙_, subst⁻¹}
 use mathlib.Core.List.{List, _++_}
-use Prim.Native.Nat.{ℕ, _+_, _*_, _-_, _≤_, _<_}
+use Prim.Native.Nat.{ℕ, _+_, _*_, _≤_, _<_}
 use native.Mathlib.Omega.{arith}
 use borrow.Author.Needs.{needs}
 use lib.ListN.{length, drop}
@@ -12,27 +12,31 @@ use Rattle.drr.specs.Answers.{idle, sentAs, arrivalPaper, pickPaper, outcome}
 use Rattle.drr.specs.Computed.{pickOf}
 use Rattle.drr.proofs.States.{table-apart}
 use Rattle.engine.proofs.Loop.{sound-bookable}
-use Rattle.runfile.specs.File.{eventAt, eventsFrom}
-use Rattle.runfile.specs.Listing.{eventsListing}
+use Rattle.runfile.specs.File.{Event, eventAt, eventsFrom}
+use Rattle.runfile.specs.Listing.{eventsListing, eventsWaiting}
 use Rattle.runfile.proofs.Lines.{written-length}
-use Rattle.runfile.proofs.Going.{Inside, Here, Later, ahead-of, lines, lines-most, line-fits, inside-first, books, booked-less}
-use Rattle.runfile.proofs.Going.{sends, sent-less, given-most, inside-jumps, jumps-less, run-ends, not-sent, has-come, not-come}
+use Rattle.runfile.proofs.Going.{Inside, Here, Later, ahead-of, lines, lines-most, line-fits, beside-fits, inside-first}
+use Rattle.runfile.proofs.Going.{books, booked-less, sends, sent-less, given-most, given-before, inside-jumps, jumps-less, run-ends}
+use Rattle.runfile.proofs.Going.{not-sent, has-come, not-come}
 use Rattle.runfile.proofs.turns.run_events.Statement.{statement}
 use Rattle.runfile.proofs.turns.run_events.Tie as tie
 
 abbrev Inv-loop : tie.InvT-loop
-Inv-loop t m out₀ common quanta maxima counts₀ deficits₀ rows₀ spot₀ y₀ now₀ at₀ out counts deficits rows spot y now at =
+Inv-loop t m out₀ beside₀ common quanta maxima counts₀ sums₀ deficits₀ rows₀ spot₀ y₀ now₀ at₀ out beside counts sums deficits rows
+    spot y now at =
     let T = tableOf common quanta maxima in
-    Inside T t m out₀ (eventsListing T (eventsFrom t 0 m)) now at y (lineOf counts deficits rows spot) out
+    let es = eventsFrom t 0 m in
+    Inside T t m out₀ (eventsListing T es) beside₀ (eventsWaiting T es) now at y (lineOf counts sums deficits rows spot) out beside
 
 abbrev μ-loop : tie.MeasureT-loop
-μ-loop t m out₀ common quanta maxima counts₀ deficits₀ rows₀ spot₀ y₀ now₀ at₀ out counts deficits rows spot y now at =
-    ahead-of t m now at (lineOf counts deficits rows spot)
+μ-loop t m out₀ beside₀ common quanta maxima counts₀ sums₀ deficits₀ rows₀ spot₀ y₀ now₀ at₀ out beside counts sums deficits rows
+    spot y now at =
+    ahead-of t m now at (lineOf counts sums deficits rows spot)
 
 -- the table, as it was taken apart before the loop
 module _ (k : tie.After-common-of Inv-loop μ-loop) where
   abbrev S : tie.Start Inv-loop μ-loop
-  S = k .before .before .before
+  S = k .before .before .before .before
 
   abbrev T : Table
   T = tableOf (k .common-of .result) (S .args .table .quanta) (S .args .table .maxima)
@@ -58,11 +62,11 @@ module _ (a : tie.At-loop Inv-loop μ-loop) where
   m = S K .args .m
 
   abbrev l : Line
-  l = lineOf (a .loop .counts) (a .loop .deficits) (a .loop .rows) (a .loop .spot)
+  l = lineOf (a .loop .counts) (a .loop .sums) (a .loop .deficits) (a .loop .rows) (a .loop .spot)
 
   -- what is asked of the caller, by its parts
-  given : (8 * m ≤ length t) × (m ≤ mostEvents) × (6 * (m + 1) ≤ length (S K .args .out .now))
-  given = let p = S K .pre in (p .0 .0, p .0 .1, p .1 .1)
+  given : (8 * m ≤ length t) × (m ≤ mostEvents) × (6 * (m + 1) ≤ length (S K .args .out .now)) × (m ≤ length (S K .args .beside .now))
+  given = let p = S K .pre in (p .0 .0, p .0 .1, p .1 .1 .0, p .1 .1 .1)
 
   abbrev here : Here
   here = record {
@@ -72,11 +76,15 @@ module _ (a : tie.At-loop Inv-loop μ-loop) where
     before = S K .args .out .now;
     whole = eventsListing (T K) (eventsFrom t 0 m);
     room = given .2;
+    before-beside = S K .args .beside .now;
+    whole-beside = eventsWaiting (T K) (eventsFrom t 0 m);
+    room-beside = given .3;
     tick = a .loop .now;
     passed = a .loop .at;
     count = a .loop .y;
     line = l;
     list = a .loop .out;
+    beside = a .loop .beside;
     inside = a .loop .inv;
   }
 
@@ -99,41 +107,63 @@ module _ (d : tie.Then1 Inv-loop μ-loop) where
   come : (A .loop .at < m A) × (eventAt (t A) (A .loop .at) .tick ≤ A .loop .now)
   come = has-come (t A) (m A) (A .loop .now) (A .loop .at) (d .before .has-come .ensures) (d .if1 .taken)
 
+  within : 8 * A .loop .at + 8 ≤ length (t A)
+  within = omega (arith, given A .0, come .0)
+
+  -- there is room beside the line that it may have
+  aside : 1 * lines (A .loop .y) + 1 ≤ length (A .loop .beside)
+  aside = beside-fits (here A) (omega (arith, lines-most (here A), come .0))
+
+-- .. as it was read, before it is booked
+abbrev Read : tie.After-book Inv-loop μ-loop → tie.After-event-at Inv-loop μ-loop
+Read b = b .before .before .before .before .before .before
+
 module _ (N : tie.After-note Inv-loop μ-loop) where
+  abbrev Q : tie.After-waiting-at Inv-loop μ-loop
+  Q = N .before .before .before .before .before
+
   abbrev B : tie.After-book Inv-loop μ-loop
-  B = N .before .before
+  B = Q .before .before .before
 
-  abbrev E2 : tie.After-le22 Inv-loop μ-loop
-  E2 = B .before .before .before .before
-
-  abbrev E4 : tie.After-le4 Inv-loop μ-loop
-  E4 = E2 .before .before
+  abbrev E : tie.After-event-at Inv-loop μ-loop
+  E = Read B
 
   abbrev D : tie.Then1 Inv-loop μ-loop
-  D = E4 .before
+  D = E .before
 
-  has : E4 .le4 .result ≤ A D .loop .now
-  has = subst⁻¹ (λ (x : ℕ). x ≤ A D .loop .now) (E4 .le4 .ensures .0) (come D .1)
+  abbrev ev : Event
+  ev = eventAt (t (A D)) (A D .loop .at)
+
+  is-tick : E .event-at .result .tick ≡ ev .tick
+  is-tick = ap (λ (e : Event). e .tick) (E .event-at .ensures .0)
+
+  is-flow : E .event-at .result .flow ≡ ev .flow
+  is-flow = ap (λ (e : Event). e .flow) (E .event-at .ensures .0)
+
+  is-length : E .event-at .result .length ≡ ev .length
+  is-length = ap (λ (e : Event). e .length) (E .event-at .ensures .0)
+
+  has : E .event-at .result .tick ≤ A D .loop .now
+  has = subst⁻¹ (λ (x : ℕ). x ≤ A D .loop .now) is-tick (come D .1)
 
 loop-again : tie.Need-loop-again Inv-loop μ-loop
 loop-again c =
     let n = c .before .before in
     let a = A (D n) in
     let e = B n .book .ensures (S (K a) .args .table .quanta) (a .loop .deficits) (a .loop .spot) in
-    books (here a) _ _ _ (E4 n .le4 .ensures .0) (E2 n .before .le2 .ensures .0) (E2 n .le22 .ensures .0) (come (D n) .0) (has n)
-    (arrivalPaper (B n .book .result)) _ e _ (n .note .ensures .1) _ refl _ (n .note .ensures .0)
+    books (here a) _ _ _ (is-tick n) (is-flow n) (is-length n) (come (D n) .0) (has n) (arrivalPaper (B n .book .result)) _ e _
+    (n .note .ensures .1) _ (Q n .waiting-at .ensures) _ (n .before .before .before .before .note-beside .ensures) _ refl _ (n .note .ensures .0)
 
 loop-less : tie.Need-loop-less Inv-loop μ-loop
 loop-less c =
     let n = c .before .before in
     let a = A (D n) in
     let e = B n .book .ensures (S (K a) .args .table .quanta) (a .loop .deficits) (a .loop .spot) in
-    booked-less (here a) _ _ _ (E4 n .le4 .ensures .0) (E2 n .before .le2 .ensures .0) (E2 n .le22 .ensures .0) (come (D n) .0) (has n)
-    (arrivalPaper (B n .book .result)) _ e
+    booked-less (here a) _ _ _ (is-tick n) (is-flow n) (is-length n) (come (D n) .0) (has n) (arrivalPaper (B n .book .result)) _ e
 
 -- ---- a pick: the place before it
 abbrev J : tie.After-pick-in Inv-loop μ-loop → tie.Else1 Inv-loop μ-loop
-J p = p .before .before .before .before .before .before
+J p = p .before .before .before .before .before .before .before
 
 -- .. it sends
 module _ (G : tie.After-answer Inv-loop μ-loop) where
@@ -161,18 +191,32 @@ module _ (G : tie.After-answer Inv-loop μ-loop) where
   most : len ≤ mostMaximum
   most = given-most (here A₁) (later (J P)) _ _ (P .pick-in .ensures) f len d v told
 
+  before-last : lines (A₁ .loop .y) < m A₁
+  before-last = given-before (here A₁) (later (J P)) _ _ (P .pick-in .ensures) f len d v told
+
+-- .. and what it sent is told
+module _ (c : tie.After-usize-of-u32 Inv-loop μ-loop) where
+  abbrev Z : tie.After-send-line Inv-loop μ-loop
+  Z = c .before .before .before
+
+  abbrev R : tie.After-waiting-at2 Inv-loop μ-loop
+  R = Z .before .before .before .before .before
+
+  abbrev G₁ : tie.After-answer Inv-loop μ-loop
+  G₁ = R .before .before .before .before
+
 loop-again-3 : tie.Need-loop-again-3 Inv-loop μ-loop
 loop-again-3 c =
-    let q = c .before .before .before in
-    let g = q .before .before .before in
+    let q = Z c in
+    let g = G₁ c in
     rw (c .usize-of-u32 .ensures .0)
     (sends (here (A₁ g)) (later (J (P g))) _ _ (P g .pick-in .ensures) (f g) (len g) (d g) (v g) (told g) (len g) refl
-    (d g) (v g) refl refl _ (q .send-line .ensures .1) _ (q .send-line .ensures .0))
+    (d g) (v g) refl refl _ (q .send-line .ensures .1) _ (R c .waiting-at2 .ensures) _
+    (q .before .before .before .before .put-beside .ensures) _ (q .send-line .ensures .0))
 
 loop-less-3 : tie.Need-loop-less-3 Inv-loop μ-loop
 loop-less-3 c =
-    let q = c .before .before .before in
-    let g = q .before .before .before in
+    let g = G₁ c in
     sent-less (here (A₁ g)) (later (J (P g))) _ _ (P g .pick-in .ensures) (f g) (len g) (d g) (v g) (told g) _
     (c .usize-of-u32 .ensures .0)
 
@@ -187,7 +231,7 @@ module _ (k : tie.At-match-keys2 Inv-loop μ-loop) where
   abbrev l₂ : Line
   l₂ =
       let e = P₂ .pick-in .last .1 .1 .1 in
-      lineOf (e .0) (e .1 .0) (e .1 .1 .0) (P₂ .pick-in .result .spot)
+      lineOf (e .0) (e .1 .0) (e .1 .1 .0) (e .1 .1 .1 .0) (P₂ .pick-in .result .spot)
 
   idles : outcome idle l₂ ≡ pickOf (T (K A₂)) (l A₂)
   idles = not-sent (T (K A₂)) (l A₂) (P₂ .pick-in .result .answer) l₂ (P₂ .pick-in .ensures) (k .match .keys2)
@@ -197,12 +241,14 @@ returns c =
     let q = c .before .before in
     let e = q .before .before .before in
     let k = e .before in
-    let s = S (K (A₂ k)) in
-    run-ends (here (A₂ k)) (later (J (P₂ k))) (l₂ k) (idles k) (e .if2 .taken) _ (q .put-line .ensures)
-    ∙ (λ i. eventsListing (table-is (K (A₂ k)) i) (eventsFrom (s .args .t .now) 0 (s .args .m))
-    ++ drop (6 * (s .args .m + 1)) (s .args .out .now))
+    let a = S (K (A₂ k)) .args in
+    let is = table-is (K (A₂ k)) in
+    let z = run-ends (here (A₂ k)) (later (J (P₂ k))) (l₂ k) (idles k) (e .if2 .taken) _ (q .put-line .ensures) in (
+      z .0 ∙ (λ i. eventsListing (is i) (eventsFrom (a .t .now) 0 (a .m)) ++ drop (6 * (a .m + 1)) (a .out .now)),
+      z .1 ∙ (λ i. eventsWaiting (is i) (eventsFrom (a .t .now) 0 (a .m)) ++ drop (a .m) (a .beside .now)),
+    )
 
-module _ (g : tie.After-le42 Inv-loop μ-loop) where
+module _ (g : tie.After-le4 Inv-loop μ-loop) where
   abbrev K₂ : tie.At-match-keys2 Inv-loop μ-loop
   K₂ = g .before .before
 
@@ -212,16 +258,13 @@ module _ (g : tie.After-le42 Inv-loop μ-loop) where
 loop-again-2 : tie.Need-loop-again-2 Inv-loop μ-loop
 loop-again-2 g =
     let k = K₂ g in
-    let small = rw (g .le42 .ensures .0) at (g .le42 .ensures .1) in
-    rw (g .le42 .ensures .0) (inside-jumps (here (A₂ k)) (later (J (P₂ k))) (l₂ k) (idles k) (more g) small)
+    let small = rw (g .le4 .ensures .0) at (g .le4 .ensures .1) in
+    rw (g .le4 .ensures .0) (inside-jumps (here (A₂ k)) (later (J (P₂ k))) (l₂ k) (idles k) (more g) small)
 
 loop-less-2 : tie.Need-loop-less-2 Inv-loop μ-loop
-loop-less-2 g = let k = K₂ g in rw (g .le42 .ensures .0) (jumps-less (here (A₂ k)) (later (J (P₂ k))) (l₂ k) (idles k) (more g))
+loop-less-2 g = let k = K₂ g in rw (g .le4 .ensures .0) (jumps-less (here (A₂ k)) (later (J (P₂ k))) (l₂ k) (idles k) (more g))
 
 -- ---- indices and sums
-within : (a : tie.At-loop Inv-loop μ-loop) → a .loop .at < m a → 8 * a .loop .at + 8 ≤ length (t a)
-within a more = omega (arith, given a .0)
-
 small : (a : tie.At-loop Inv-loop μ-loop) → a .loop .at ≤ mostEvents
 small a = omega (arith, a .loop .inv .at-most, given a .1)
 
@@ -233,13 +276,13 @@ loop-holds c =
     let k = c .before .before .before .before .before in
     let s = S k in
     rw (c .no-lines .ensures, c .before .closed-at .ensures)
-    (inside-first (T k) (s .args .t .now) (s .args .m) (s .args .out .now) (ranged k))
+    (inside-first (T k) (s .args .t .now) (s .args .m) (s .args .out .now) (s .args .beside .now) (ranged k))
 
 same-length : tie.Need-same-length Inv-loop μ-loop
 same-length c =
     let p = c .before .before in
     let a = A₂ (p .before .before .before .before) in
-    ap length (p .put-line .ensures) ∙ written-length (a .loop .out) _ (lines (a .loop .y)) (fits a) ∙ a .loop .inv .size
+    ap length (p .put-line .ensures) ∙ written-length 6 (a .loop .out) _ (lines (a .loop .y)) (fits a) ∙ a .loop .inv .listed .size
 
 pub run-events-spec : {M : Type 1} → statement M
 run-events-spec =
@@ -253,33 +296,31 @@ run-events-spec =
     (λ c κs. _)
     loop-holds
     (λ c κs. (given c .0, given c .1))
-    (λ c. omega (arith, small (A c)))
-    (λ c κs. omega (arith, within (A c) (come c .0)))
-    (λ c. omega (arith, small (A (c .before))))
-    (λ c. omega (arith, small (A (c .before))))
-    (λ c κs. omega (arith, within (A (c .before)) (come (c .before) .0)))
-    (λ c. omega (arith, small (A (c .before .before))))
-    (λ c. omega (arith, small (A (c .before .before))))
-    (λ c κs. omega (arith, within (A (c .before .before)) (come (c .before .before) .0)))
-    (λ c. omega (arith, c .before .before .before .le22 .ensures .1))
-    (λ c κs. let e = c .before .before .before .before .before .before in sound-bookable (A e .loop .inv .sound))
-    (λ c κs. let e = c .before .before .before .before .before .before .before .before in (fits (A e), few (A e)))
+    (λ c κs. (within c, small (A c)))
+    (λ c. omega (arith, c .before .before .before .before .before .event-at .ensures .1))
+    (λ c κs. sound-bookable (A (c .before .before .before .before .before .before) .loop .inv .sound))
+    (λ c κs. _)
+    (λ c κs. let d = Read (c .before .before .before) .before in (aside d, few (A d)))
+    (λ c κs. let d = Read (c .before .before .before .before .before .before .before) .before in (fits (A d), few (A d)))
     (λ c. omega (arith, small (A (D (c .before .before)))))
     loop-less
     loop-again
-    (λ c κs. let e = c .before .before .before .before .before .before .before in e .loop .inv .sound)
+    (λ c κs. let e = c .before .before .before .before .before .before .before .before in e .loop .inv .sound)
     (λ c. search needs)
     (λ c. omega (arith, few (A₂ (c .before .before .before))))
     (λ c κs. let a = A₂ (c .before .before .before) in (fits a, few a))
     same-length
+    (λ c. let p = c .before .before in A₂ (p .before .before .before .before) .loop .inv .besides .size)
     returns
     (λ c. omega (arith, small (A₂ (c .before))))
-    (λ c κs. omega (arith, within (A₂ (c .before)) (c .if2 .left)))
+    (λ c κs. omega (arith, given (A₂ (c .before)) .0, c .if2 .left))
     loop-less-2
     loop-again-2
-    (λ c κs. let g = c .before .before in let a = A₁ g in ((fits a, few a), omega (arith, now-small a, most g)))
     (λ c κs. _)
-    (λ c. let g = c .before .before .before .before .before .before in
-    omega (arith, now-small (A₁ g), most g, c .usize-of-u32 .ensures .0))
+    (λ c κs. let g = c .before .before .before .before in (beside-fits (here (A₁ g)) (before-last g), few (A₁ g)))
+    (λ c κs. let g = c .before .before .before .before .before .before .before .before in
+    ((fits (A₁ g), few (A₁ g)), omega (arith, now-small (A₁ g), most g)))
+    (λ c κs. _)
+    (λ c. let g = G₁ c in omega (arith, now-small (A₁ g), most g, c .usize-of-u32 .ensures .0))
     loop-less-3
     loop-again-3)

@@ -19,7 +19,7 @@ returns c =
     let visits = w3 .usize-of-u323 .ensures .0 in (
       ap (λ (x : ℕ). tally (a .y .sent + 1) (a .y .refused) (a .start + x)) len,
       p .put-line .ensures
-          ∙ (λ j. written (a .out .now) (a .y .sent + a .y .refused) (1 ∷ a .start ∷ a .flow ∷ len j ∷ deficit j ∷ visits j ∷ [])),
+          ∙ (λ j. written 6 (a .out .now) (a .y .sent + a .y .refused) (1 ∷ a .start ∷ a .flow ∷ len j ∷ deficit j ∷ visits j ∷ [])),
     )
 
 pub send-line-spec : {M : Type 1} → statement M
