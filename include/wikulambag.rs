@@ -63,6 +63,7 @@ pub struct Row {
 pub struct Line {
     pub deficits: [u32; 16],
     pub counts: [u8; 16],
+    pub sums: [u32; 16],
     pub place: usize,
     pub opened: bool,
     pub rows: [Row; 16],
@@ -126,6 +127,7 @@ unsafe extern "C" {
     pub safe fn wikulambag_owed(s: State, flow: usize, bytes: u32) -> FigureResult;
     pub safe fn wikulambag_wait(s: State, flow: usize) -> FigureResult;
     pub safe fn wikulambag_lag(s: State, flow: usize) -> FigureResult;
+    pub safe fn wikulambag_waiting_bytes(s: State, flow: usize) -> FigureResult;
     pub fn wikulambag_run(file: *const u8, size: usize, list: *mut u64, room: usize) -> RunResult;
 }
 

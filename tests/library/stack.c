@@ -9,8 +9,10 @@
 #include <stdlib.h>
 #include <string.h>
 
-enum { ROOM = 1 << 20, PAINT = 0xA5, CALLS = 8 };
-static const char *const names[CALLS] = {"setup", "sound", "arrival", "pick", "owed", "wait", "lag", "run"};
+enum { ROOM = 1 << 20, PAINT = 0xA5, CALLS = 9 };
+static const char *const names[CALLS] = {
+    "setup", "sound", "arrival", "pick", "owed", "wait", "lag", "waiting_bytes", "run",
+};
 
 static struct wikulambag_flow_list list;
 static struct wikulambag_state state;
@@ -31,7 +33,8 @@ static void *call(void *which)
     case 4: lines[0] = wikulambag_owed(state, 0, 1000000).value; break;
     case 5: lines[0] = wikulambag_wait(state, 0).value; break;
     case 6: lines[0] = wikulambag_lag(state, 0).value; break;
-    case 7: lines[0] = wikulambag_run(file, file_size, lines, 6150).refusal; break;
+    case 7: lines[0] = wikulambag_waiting_bytes(state, 0).value; break;
+    case 8: lines[0] = wikulambag_run(file, file_size, lines, 6150).refusal; break;
     }
     return NULL;
 }

@@ -21,6 +21,7 @@ static bool same(struct wikulambag_state a, struct wikulambag_state b)
     return memcmp(&a.table, &b.table, sizeof a.table) == 0
         && memcmp(a.line.deficits, b.line.deficits, sizeof a.line.deficits) == 0
         && memcmp(a.line.counts, b.line.counts, sizeof a.line.counts) == 0
+        && memcmp(a.line.sums, b.line.sums, sizeof a.line.sums) == 0
         && a.line.place == b.line.place && a.line.opened == b.line.opened
         && memcmp(a.line.rows, b.line.rows, sizeof a.line.rows) == 0;
 }
@@ -41,7 +42,10 @@ static struct wikulambag_state waiting(void)
         s.table.quanta[f] = (uint32_t)(1000 + f);
         s.table.maxima[f] = (uint32_t)(9000 + f);
         s.line.counts[f] = (uint8_t)(f + 1);
-        for (size_t k = 0; k <= f; k++) s.line.rows[f].lengths[k] = (uint16_t)length_of(f, k);
+        for (size_t k = 0; k <= f; k++) {
+            s.line.rows[f].lengths[k] = (uint16_t)length_of(f, k);
+            s.line.sums[f] += length_of(f, k);
+        }
     }
     return s;
 }
@@ -76,8 +80,14 @@ static void each_field_spoilt(void)
         s = good, s.table.maxima[f] = 1, spoilt(s, "maxima", f, 0);
         s = good, s.line.deficits[f] = 2000, spoilt(s, "deficits", f, 0);
         s = good, s.line.counts[f]++, spoilt(s, "counts", f, 0);
-        for (size_t k = 0; k < 32; k++)
-            s = good, s.line.rows[f].lengths[k] = k <= f ? 9999 : 1, spoilt(s, "lengths", f, k);
+        s = good, s.line.sums[f]++, spoilt(s, "sums", f, 1);
+        s = good, s.line.sums[f]--, spoilt(s, "sums", f, 2);
+        /* a waiting length with its sum, so that the length alone is wrong */
+        for (size_t k = 0; k <= f; k++) {
+            s = good, s.line.rows[f].lengths[k] = 9999, s.line.sums[f] += 9999 - length_of(f, k);
+            spoilt(s, "lengths", f, k);
+        }
+        for (size_t k = f + 1; k < 32; k++) s = good, s.line.rows[f].lengths[k] = 1, spoilt(s, "lengths", f, k);
     }
 }
 
@@ -113,6 +123,7 @@ static void answers(void)
     after.line.place = 6;
     after.line.deficits[6] = 16 + 1006 - 392;
     after.line.counts[6] = 6;
+    after.line.sums[6] -= 392;
     memmove(after.line.rows[6].lengths, after.line.rows[6].lengths + 1, 31 * sizeof(uint16_t));
     see(p.refusal == 0 && p.sent && p.flow == 6 && p.length == 392, "pick", p.flow, p.length);
     see(p.deficit == 630 && p.visits == 1 && same(p.state, after), "pick's state", p.deficit, p.visits);
@@ -127,6 +138,22 @@ static void answers(void)
     see(figure.refusal == 0 && figure.value == (1003 * 4000000000ull - lag + quanta - 1) / quanta, "owed", 3, 0);
     figure = wikulambag_owed(s, 16, 4000000000);
     see(figure.refusal == WIKULAMBAG_UNKNOWN_FLOW && figure.value == 0, "owed", 16, 0);
+}
+
+/* flow f has the lengths 200 + 32 f and so on, f + 1 of them, each one more than the one before */
+static void waiting_bytes(void)
+{
+    struct wikulambag_state s = visited();
+    struct wikulambag_figure_result figure;
+    for (size_t f = 0; f < 16; f++) {
+        figure = wikulambag_waiting_bytes(s, f);
+        see(figure.refusal == 0 && figure.value == (f + 1) * (200 + 32 * f) + f * (f + 1) / 2, "waiting bytes", f, 0);
+    }
+    figure = wikulambag_waiting_bytes(s, 16);
+    see(figure.refusal == WIKULAMBAG_UNKNOWN_FLOW && figure.value == 0, "waiting bytes", 16, 0);
+    s.line.sums[7]++;
+    figure = wikulambag_waiting_bytes(s, 16);
+    see(figure.refusal == WIKULAMBAG_NOT_SOUND && figure.value == 0, "waiting bytes", 16, 1);
 }
 
 /* one flow, and three events, of which the last has a tick below the one before */
@@ -145,6 +172,7 @@ int main(void)
     each_field_spoilt();
     made_by_calls();
     answers();
+    waiting_bytes();
     run();
     printf("through.c: %d things seen, %d wrong\n", seen, wrong);
     return wrong != 0;

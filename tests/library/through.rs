@@ -25,6 +25,7 @@ fn waiting() -> State {
         s.line.counts[f] = f as u8 + 1;
         for k in 0..=f {
             s.line.rows[f].lengths[k] = length_of(f, k) as u16;
+            s.line.sums[f] += length_of(f, k);
         }
     }
     s
@@ -64,10 +65,17 @@ fn each_field_spoilt() {
         spoilt("maxima", |s| s.table.maxima[f] = 1);
         spoilt("deficits", |s| s.line.deficits[f] = 2000);
         spoilt("counts", |s| s.line.counts[f] += 1);
-        for k in 0..32 {
+        spoilt("sums, one more", |s| s.line.sums[f] += 1);
+        spoilt("sums, one less", |s| s.line.sums[f] -= 1);
+        // a waiting length with its sum, so that the length alone is wrong
+        for k in 0..=f {
             spoilt("lengths", |s| {
-                s.line.rows[f].lengths[k] = if k <= f { 9999 } else { 1 }
+                s.line.rows[f].lengths[k] = 9999;
+                s.line.sums[f] += 9999 - length_of(f, k);
             });
+        }
+        for k in f + 1..32 {
+            spoilt("lengths", |s| s.line.rows[f].lengths[k] = 1);
         }
     }
 }
@@ -104,6 +112,7 @@ fn answers() {
         state.line.deficits[6],
         state.line.counts[6],
     ) = (true, 6, 630, 6);
+    state.line.sums[6] -= 392;
     state.line.rows[6].lengths.rotate_left(1);
     state.line.rows[6].lengths[31] = 0;
     let sent = PickResult {
@@ -131,6 +140,22 @@ fn answers() {
             value: 0
         }
     );
+}
+
+/// Flow f has the lengths 200 + 32 f and so on, f + 1 of them, each one more than the one before.
+fn waiting_bytes() {
+    let mut s = visited();
+    for f in 0..16 {
+        let value = ((f + 1) * (200 + 32 * f) + f * (f + 1) / 2) as u64;
+        assert_eq!(
+            wikulambag_waiting_bytes(s, f),
+            FigureResult { refusal: 0, value }
+        );
+    }
+    let refused = |refusal| FigureResult { refusal, value: 0 };
+    assert_eq!(wikulambag_waiting_bytes(s, 16), refused(UNKNOWN_FLOW));
+    s.line.sums[7] += 1;
+    assert_eq!(wikulambag_waiting_bytes(s, 16), refused(NOT_SOUND));
 }
 
 /// One flow, and three events, of which the last has a tick below the one before.
@@ -165,5 +190,6 @@ fn main() {
     each_field_spoilt();
     made_by_calls();
     answers();
+    waiting_bytes();
     run_refused();
 }

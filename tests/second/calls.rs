@@ -1,24 +1,33 @@
 //! Calls the proved library and the second program on the same states with the same numbers, and
 //! compares answer and state after every call. Along chains of calls from a fresh state it also
-//! checks the floor: what each flow was sent against what it is owed. With '--caught' it ends at the
-//! first difference, which is all that a wrong variant has to show.
+//! checks the floor: what each flow was sent against what it is owed; and along these and along
+//! chains from other sound states the account: what was accepted against what was sent and waits.
+//! With '--caught' it ends at the first difference, which is all that a wrong variant has to show.
 
+mod account;
 mod dice;
 mod drr;
 mod proved;
 mod states;
 
+use account::Account;
 use dice::Dice;
-use drr::{Picked, State};
+use drr::State;
 use proved::{told_figure, told_pick};
 use wikulambag::{
     wikulambag_arrival, wikulambag_lag, wikulambag_owed, wikulambag_pick, wikulambag_setup,
-    wikulambag_sound, wikulambag_wait, ArrivalResult, FlowList, SetupResult,
+    wikulambag_sound, wikulambag_wait, wikulambag_waiting_bytes, ArrivalResult, FlowList,
+    PickResult, SetupResult,
 };
 
 const STATES: usize = 60_000;
+/// Sound states whose sums are made false, each flow's in turn.
+const SUMMED: usize = 500;
 const CHAINS: usize = 300;
 const CHAIN_CALLS: usize = 4_000;
+/// Chains that begin at a sound state, and their calls.
+const LATER_CHAINS: usize = 2_000;
+const LATER_CALLS: usize = 100;
 const SETUPS: usize = 60_000;
 
 /// Calls made of each kind, and how many of them were answered or left a state otherwise.
@@ -26,20 +35,25 @@ const SETUPS: usize = 60_000;
 struct Tally {
     setups: u64,
     soundness: u64,
+    /// States that the proved library finds sound.
+    sound: u64,
     arrivals: u64,
     picks: u64,
     figures: u64,
     long_waits: u64,
+    waiting: u64,
     differ: u64,
     to_first: bool,
 }
 
 impl Tally {
     fn calls(&self) -> u64 {
-        self.setups + self.soundness + self.arrivals + self.picks + self.figures
+        let changing = self.setups + self.arrivals + self.picks;
+        changing + self.soundness + self.figures + self.waiting
     }
 
-    /// Shows the first few differences, and counts them all.
+    /// Shows the first few differences, and counts them all. Of an account the two sides are what came,
+    /// and what was sent or waits.
     fn compare<T: PartialEq + std::fmt::Debug>(&mut self, call: &str, proved: &T, second: &T) {
         if proved != second {
             self.differ += 1;
@@ -57,24 +71,39 @@ impl Tally {
 /// A state as the proved library has it.
 type Ours = wikulambag::State;
 
-/// An arrival by both.
-fn arrival(tally: &mut Tally, ours: &mut Ours, theirs: &mut State, flow: usize, length: u32) {
+/// An arrival by both; the proved library's refusal number.
+fn arrival(
+    tally: &mut Tally,
+    ours: &mut Ours,
+    theirs: &mut State,
+    (flow, length): (usize, u32),
+) -> u32 {
     let proved = wikulambag_arrival(*ours, flow, length);
     let refusal = drr::arrival(theirs, flow, length);
     let state = Ours::from(&*theirs);
     tally.arrivals += 1;
     tally.compare("arrival", &proved, &ArrivalResult { refusal, state });
     *ours = proved.state;
+    proved.refusal
 }
 
-/// A pick by both; the second program's answer.
-fn pick(tally: &mut Tally, ours: &mut Ours, theirs: &mut State) -> Picked {
+/// A pick by both; the proved library's answer.
+fn pick(tally: &mut Tally, ours: &mut Ours, theirs: &mut State) -> PickResult {
     let proved = wikulambag_pick(*ours);
     let second = drr::pick(theirs);
     tally.picks += 1;
     tally.compare("pick", &proved, &told_pick(second, theirs));
     *ours = proved.state;
-    second
+    proved
+}
+
+/// The bytes that wait in a flow, by both; the proved library's answer.
+fn waiting(tally: &mut Tally, ours: &Ours, theirs: &State, flow: usize) -> u64 {
+    let proved = wikulambag_waiting_bytes(*ours, flow);
+    let second = told_figure(drr::waiting_bytes(theirs, flow));
+    tally.waiting += 1;
+    tally.compare("waiting bytes", &proved, &second);
+    proved.value
 }
 
 fn figures(tally: &mut Tally, s: &State, dice: &mut Dice) {
@@ -90,6 +119,7 @@ fn figures(tally: &mut Tally, s: &State, dice: &mut Dice) {
     let lag = told_figure(drr::lag(s, flow));
     tally.compare("lag", &wikulambag_lag(s.into(), flow), &lag);
     tally.figures += 3;
+    waiting(tally, &s.into(), s, flow);
 }
 
 /// The waits of small quanta beside large ones: the longest there are, past 32 bits.
@@ -124,11 +154,12 @@ fn packet(s: &State, dice: &mut Dice) -> (usize, u32) {
 
 /// Every call on one state, each from the state as it came.
 fn try_state(tally: &mut Tally, s: &State, dice: &mut Dice) {
+    let sound = wikulambag_sound(s.into());
     tally.soundness += 1;
-    tally.compare("sound", &wikulambag_sound(s.into()), &drr::sound(s));
+    tally.sound += u64::from(sound);
+    tally.compare("sound", &sound, &drr::sound(s));
     for _ in 0..2 {
-        let (flow, length) = packet(s, dice);
-        arrival(tally, &mut s.into(), &mut s.clone(), flow, length);
+        arrival(tally, &mut s.into(), &mut s.clone(), packet(s, dice));
     }
     pick(tally, &mut s.into(), &mut s.clone());
     figures(tally, s, dice);
@@ -139,13 +170,16 @@ fn try_states(tally: &mut Tally, dice: &mut Dice) -> [u64; states::BREAKS.len()]
     let mut broken = [0; states::BREAKS.len()];
     for round in 0..STATES {
         let s = states::sound_state(dice);
-        tally.compare("built sound", &drr::sound(&s), &true);
         try_state(tally, &s, dice);
+        tally.compare("built sound", &drr::sound(&s), &true);
+        for flow in 0..s.n {
+            waiting(tally, &Ours::from(&s), &s, flow);
+        }
         let clause = round % broken.len();
         let mut spoilt = s;
         if states::BREAKS[clause].1(&mut spoilt, dice) {
-            tally.compare(states::BREAKS[clause].0, &drr::sound(&spoilt), &false);
             try_state(tally, &spoilt, dice);
+            tally.compare(states::BREAKS[clause].0, &drr::sound(&spoilt), &false);
             broken[clause] += 1;
         }
         if round % 4 == 0 {
@@ -153,6 +187,25 @@ fn try_states(tally: &mut Tally, dice: &mut Dice) -> [u64; states::BREAKS.len()]
         }
     }
     broken
+}
+
+/// Sums that are one more or one less than they should be, each flow's in turn. Gives how often that of
+/// each flow was false where it is not in the table, and where it is.
+fn try_false_sums(tally: &mut Tally, dice: &mut Dice) -> [[u64; 16]; 2] {
+    let mut falsified = [[0; 16]; 2];
+    for _ in 0..SUMMED {
+        let s = states::sound_state(dice);
+        for (flow, by) in (0..16).flat_map(|flow| [(flow, 1), (flow, u32::MAX)]) {
+            let mut spoilt = s.clone();
+            spoilt.sums[flow] = s.sums[flow].wrapping_add(by);
+            let ours = Ours::from(&spoilt);
+            tally.compare("a sum false by one", &wikulambag_sound(ours), &false);
+            try_state(tally, &spoilt, dice);
+            waiting(tally, &ours, &spoilt, flow);
+            falsified[usize::from(flow < s.n)][flow] += 1;
+        }
+    }
+    falsified
 }
 
 fn try_setups(tally: &mut Tally, dice: &mut Dice) {
@@ -193,12 +246,9 @@ struct Floor {
 }
 
 impl Floor {
-    /// One pick, with the state before it.
-    fn pick(&mut self, stretches: &mut [Stretch], before: &State, answer: Picked) {
-        let (to, length) = match answer {
-            Picked::Sent { flow, length, .. } => (flow, i128::from(length)),
-            _ => (usize::MAX, 0),
-        };
+    /// One pick, with the state before it. An idle one has length 0.
+    fn pick(&mut self, stretches: &mut [Stretch], before: &State, answer: &PickResult) {
+        let (to, length) = (answer.flow, i128::from(answer.length));
         let all: i128 = before.quanta.iter().map(|&q| i128::from(q)).sum();
         for (flow, stretch) in stretches.iter_mut().enumerate() {
             let quantum = i128::from(before.quanta[flow]);
@@ -218,27 +268,152 @@ impl Floor {
     }
 }
 
+/// A chain of calls by both, with its account.
+struct Chain {
+    ours: Ours,
+    theirs: State,
+    account: Account,
+}
+
+/// How often the account was held, and how many refused arrivals it had to leave out.
+#[derive(Default)]
+struct Held {
+    flows: u64,
+    together: u64,
+    refused: u64,
+}
+
+impl Chain {
+    fn from_fresh(dice: &mut Dice) -> Chain {
+        let theirs = drr::setup(&states::flows(dice)).expect("a table within the limits");
+        Chain {
+            ours: Ours::from(&theirs),
+            account: Account::default(),
+            theirs,
+        }
+    }
+
+    /// From a state that no calls have built, with what waits there.
+    fn from_sound(tally: &mut Tally, dice: &mut Dice) -> Chain {
+        let theirs = states::sound_state(dice);
+        let ours = Ours::from(&theirs);
+        let waited = std::array::from_fn(|flow| waiting(tally, &ours, &theirs, flow));
+        Chain {
+            ours,
+            theirs,
+            account: Account::after(waited),
+        }
+    }
+
+    fn arrival(&mut self, tally: &mut Tally, held: &mut Held, dice: &mut Dice) {
+        let (flow, length) = packet(&self.theirs, dice);
+        let refusal = arrival(tally, &mut self.ours, &mut self.theirs, (flow, length));
+        self.account.arrival(flow, length, refusal);
+        held.refused += u64::from(refusal != 0);
+        self.hold(tally, held, flow);
+    }
+
+    fn pick(&mut self, tally: &mut Tally, held: &mut Held) -> PickResult {
+        let answer = pick(tally, &mut self.ours, &mut self.theirs);
+        self.account.pick(&answer);
+        self.hold(tally, held, answer.flow);
+        answer
+    }
+
+    /// The account of the flow that a call named.
+    fn hold(&self, tally: &mut Tally, held: &mut Held, flow: usize) {
+        let waiting = waiting(tally, &self.ours, &self.theirs, flow);
+        if flow < 16 {
+            self.hold_flow(tally, held, flow, waiting);
+        }
+    }
+
+    fn hold_flow(&self, tally: &mut Tally, held: &mut Held, flow: usize, waiting: u64) {
+        let [came, gone] = self.account.of_flow(flow, waiting);
+        tally.compare("account of a flow", &came, &gone);
+        held.flows += 1;
+    }
+
+    /// The account of each flow, and that of all together.
+    fn hold_all(&self, tally: &mut Tally, held: &mut Held) {
+        let each = |flow| waiting(tally, &self.ours, &self.theirs, flow);
+        let all: [u64; 16] = std::array::from_fn(each);
+        for (flow, &waiting) in all.iter().enumerate() {
+            self.hold_flow(tally, held, flow, waiting);
+        }
+        let [came, gone] = self.account.of_all(all);
+        tally.compare("account of all flows", &came, &gone);
+        held.together += 1;
+    }
+}
+
 /// A chain of calls from a fresh state: arrivals and picks, refused ones among them, and bursts of
 /// arrivals. In some chains arrivals outnumber picks, so that flows wait for long.
-fn chain(tally: &mut Tally, floor: &mut Floor, dice: &mut Dice) {
-    let mut theirs = drr::setup(&states::flows(dice)).expect("a table within the limits");
-    let mut ours = Ours::from(&theirs);
-    let mut stretches = vec![Stretch::default(); theirs.n];
+fn try_chain(tally: &mut Tally, floor: &mut Floor, held: &mut Held, dice: &mut Dice) {
+    let mut chain = Chain::from_fresh(dice);
+    let mut stretches = vec![Stretch::default(); chain.theirs.n];
     let arrivals = dice.between(1, 5);
     for call in 0..CHAIN_CALLS {
         let burst = call % 300 < 40;
         if burst || dice.between(1, 6) <= arrivals {
-            let (flow, length) = packet(&theirs, dice);
-            arrival(tally, &mut ours, &mut theirs, flow, length);
+            chain.arrival(tally, held, dice);
         } else {
-            let before = theirs.clone();
-            let answer = pick(tally, &mut ours, &mut theirs);
-            floor.pick(&mut stretches, &before, answer);
+            let before = chain.theirs.clone();
+            let answer = chain.pick(tally, held);
+            floor.pick(&mut stretches, &before, &answer);
         }
         if dice.once_in(60) {
-            figures(tally, &theirs, dice);
+            figures(tally, &chain.theirs, dice);
+            chain.hold_all(tally, held);
         }
     }
+    chain.hold_all(tally, held);
+}
+
+/// A shorter one from any sound state.
+fn try_later_chain(tally: &mut Tally, held: &mut Held, dice: &mut Dice) {
+    let mut chain = Chain::from_sound(tally, dice);
+    let arrivals = dice.between(1, 5);
+    for _ in 0..LATER_CALLS {
+        if dice.between(1, 6) <= arrivals {
+            chain.arrival(tally, held, dice);
+        } else {
+            chain.pick(tally, held);
+        }
+    }
+    chain.hold_all(tally, held);
+}
+
+/// Says what was tried; whether nothing that should be seen was missed.
+fn report_states(
+    tally: &Tally,
+    broken: &[u64; states::BREAKS.len()],
+    falsified: &[[u64; 16]; 2],
+) -> bool {
+    for (clause, times) in states::BREAKS.iter().zip(broken) {
+        println!("broken alone {times} times: {}", clause.0);
+    }
+    let [unused, used] = falsified.map(|flows| flows.iter().sum::<u64>());
+    println!("sums false by one: {used} of flows in the table, {unused} of others");
+    println!(
+        "{} states tried, {} of them sound",
+        tally.soundness, tally.sound
+    );
+    let each_sum = falsified.iter().flatten().all(|&times| times > 0);
+    each_sum && broken.iter().all(|&times| times > 0) && tally.sound >= STATES as u64
+}
+
+/// The same of the chains.
+fn report_chains(floor: &Floor, held: &Held) -> bool {
+    println!(
+        "{} stretches held to the floor, {} with something owed, {} below it",
+        floor.held, floor.owing, floor.broken
+    );
+    println!(
+        "the account held {} times for a flow and {} for all flows, beside {} refused arrivals",
+        held.flows, held.together, held.refused
+    );
+    floor.owing > 0 && held.refused > 0
 }
 
 fn main() {
@@ -246,28 +421,27 @@ fn main() {
         to_first: std::env::args().nth(1).as_deref() == Some("--caught"),
         ..Tally::default()
     };
-    let mut floor = Floor::default();
     let mut dice = Dice(1995);
     try_setups(&mut tally, &mut dice);
     long_waits(&mut tally);
     let broken = try_states(&mut tally, &mut dice);
+    let falsified = try_false_sums(&mut tally, &mut dice);
+    let (mut floor, mut held) = (Floor::default(), Held::default());
     for _ in 0..CHAINS {
-        chain(&mut tally, &mut floor, &mut dice);
+        try_chain(&mut tally, &mut floor, &mut held, &mut dice);
     }
-    for (clause, times) in states::BREAKS.iter().zip(broken) {
-        println!("broken alone {times} times: {}", clause.0);
+    for _ in 0..LATER_CHAINS {
+        try_later_chain(&mut tally, &mut held, &mut dice);
     }
+    let all_states = report_states(&tally, &broken, &falsified);
+    let all_chains = report_chains(&floor, &held);
     println!(
-        "{} stretches held to the floor, {} with something owed, {} below it",
-        floor.held, floor.owing, floor.broken
-    );
-    println!(
-        "{} setups, {} soundness tests, {} arrivals, {} picks, {} figures, {} of them waits past 32 bits",
-        tally.setups, tally.soundness, tally.arrivals, tally.picks, tally.figures, tally.long_waits
+        "{} setups, {} arrivals, {} picks, {} figures, {} of them waits past 32 bits, {} waiting bytes",
+        tally.setups, tally.arrivals, tally.picks, tally.figures, tally.long_waits, tally.waiting
     );
     println!("{} calls compared, {} differ", tally.calls(), tally.differ);
-    let unseen = broken.contains(&0) || floor.owing == 0 || tally.long_waits == 0;
-    if tally.differ > 0 || floor.broken > 0 || unseen {
+    let all_seen = all_states && all_chains && tally.long_waits > 0;
+    if tally.differ > 0 || floor.broken > 0 || !all_seen {
         std::process::exit(1);
     }
 }

@@ -1,7 +1,8 @@
-//! The stored cases: small run files, each with the listing it must give.
+//! The stored cases: small run files, each with the listing it must give, and the one with the bytes
+//! waiting.
 //!
-//! `cases --write DIR` writes them and their README; `cases DRRRUN DIR` runs DRRRUN and the second
-//! program on each stored file and compares with the stored listing.
+//! `cases --write DIR` writes them and their README; `cases DRRRUN DIR` runs DRRRUN, without a word and
+//! with `--waiting`, and the second program on each stored file and compares with the stored listings.
 
 use std::io::{Error, Result};
 use std::path::Path;
@@ -16,6 +17,14 @@ struct Case {
     file: Vec<u8>,
     /// Lines worked out by hand from the requirement; the listing has them in this order.
     telling: &'static [&'static str],
+    /// The same of the listing with the bytes waiting.
+    waiting: &'static [&'static str],
+}
+
+impl Case {
+    fn waiting(self, waiting: &'static [&'static str]) -> Case {
+        Case { waiting, ..self }
+    }
 }
 
 fn case(
@@ -30,6 +39,7 @@ fn case(
         says,
         file: files::plain(flows, events),
         telling,
+        waiting: &[],
     }
 }
 
@@ -42,6 +52,8 @@ fn cases() -> Vec<Case> {
     cases.extend(length_cases());
     cases.extend(waiting_cases());
     cases.extend(tick_cases());
+    cases.extend(refused_cases());
+    cases.extend(unknown_flow_cases());
     cases
 }
 
@@ -60,10 +72,19 @@ fn document_cases() -> Vec<Case> {
             "S 1850 1 250 150 1",
             "E 2100 5 1",
         ],
+        waiting: &[
+            "S 0 0 200 300 1 750",
+            "D 100 2 700 3 400",
+            "S 200 2 400 0 2 0",
+            "S 600 0 750 50 1 0",
+            "S 1350 1 500 100 1 250",
+            "S 1850 1 250 150 1 0",
+            "E 2100 5 1",
+        ],
     };
     let says = "a file with no events";
     let none = case("no-events", says, &[(500, 800)], &[], &["E 0 0 0"]);
-    vec![worked, none]
+    vec![worked, none.waiting(&["E 0 0 0"])]
 }
 
 fn table_cases() -> Vec<Case> {
@@ -76,14 +97,16 @@ fn table_cases() -> Vec<Case> {
             &[(160, 160); 16],
             &events,
             &["S 0 0 10 150 1", "S 1200 15 160 0 1", "E 1360 16 0"],
-        ),
+        )
+        .waiting(&["S 0 0 10 150 1 0", "S 1200 15 160 0 1 0", "E 1360 16 0"]),
         case(
             "flows-17",
             "17 flows: refused",
             &[(160, 160); 17],
             &events,
             &["R 5 0"],
-        ),
+        )
+        .waiting(&["R 5 0"]),
     ]
 }
 
@@ -96,7 +119,8 @@ fn quantum_cases() -> Vec<Case> {
             &[(500, 800), (0, 800)],
             &three,
             &["R 6 1"],
-        ),
+        )
+        .waiting(&["R 6 1"]),
         case(
             "quantum-65535",
             "quantum 65,535: three of the longest packets in one visit",
@@ -108,14 +132,20 @@ fn quantum_cases() -> Vec<Case> {
                 "S 18432 0 9216 37887 0",
                 "E 27648 3 0",
             ],
-        ),
+        )
+        .waiting(&[
+            "S 0 0 9216 56319 1 18432",
+            "S 9216 0 9216 47103 0 9216",
+            "S 18432 0 9216 37887 0 0",
+        ]),
         case(
             "quantum-65536",
             "quantum 65,536: refused",
             &[(65_536, 9_216)],
             &three,
             &["R 6 0"],
-        ),
+        )
+        .waiting(&["R 6 0"]),
     ]
 }
 
@@ -128,14 +158,16 @@ fn least_quantum_cases() -> Vec<Case> {
             &[(1, 800)],
             &two,
             &["S 0 0 3 0 3", "S 3 0 2 0 2", "E 5 2 0"],
-        ),
+        )
+        .waiting(&["S 0 0 3 0 3 2", "S 3 0 2 0 2 0", "E 5 2 0"]),
         case(
             "quantum-1-packet-9216",
             "quantum 1 with a packet of 9,216: as many visits alone on the line",
             &[(1, 9_216)],
             &[(0, 0, 9_216)],
             &["S 0 0 9216 0 9216", "E 9216 1 0"],
-        ),
+        )
+        .waiting(&["S 0 0 9216 0 9216 0", "E 9216 1 0"]),
     ]
 }
 
@@ -148,14 +180,16 @@ fn maximum_cases() -> Vec<Case> {
             &[(500, 800), (500, 0)],
             &long,
             &["R 7 1"],
-        ),
+        )
+        .waiting(&["R 7 1"]),
         case(
             "maximum-1",
             "maximum 1: a packet of 1 is sent, one of 2 refused",
             &[(500, 1)],
             &[(0, 0, 1), (0, 0, 2)],
             &["D 0 0 2 3", "S 0 0 1 499 1", "E 1 1 1"],
-        ),
+        )
+        .waiting(&["D 0 0 2 3 1", "S 0 0 1 499 1 0", "E 1 1 1"]),
         // six quanta are 9,000, seven are 10,500
         case(
             "maximum-9216",
@@ -163,14 +197,16 @@ fn maximum_cases() -> Vec<Case> {
             &[(1_500, 9_216)],
             &long,
             &["S 0 0 9216 1284 7", "E 9216 1 0"],
-        ),
+        )
+        .waiting(&["S 0 0 9216 1284 7 0", "E 9216 1 0"]),
         case(
             "maximum-9217",
             "maximum 9,217: refused",
             &[(1_500, 9_217)],
             &long,
             &["R 7 0"],
-        ),
+        )
+        .waiting(&["R 7 0"]),
     ]
 }
 
@@ -185,20 +221,24 @@ fn length_cases() -> Vec<Case> {
             "length 0: a refused event",
             0,
             &["D 5 0 0 2", "E 5 0 1"],
-        ),
-        with("length-1", "length 1", 1, &["S 5 0 1 9999 1", "E 6 1 0"]),
+        )
+        .waiting(&["D 5 0 0 2 0", "E 5 0 1"]),
+        with("length-1", "length 1", 1, &["S 5 0 1 9999 1", "E 6 1 0"])
+            .waiting(&["S 5 0 1 9999 1 0", "E 6 1 0"]),
         with(
             "length-9216",
             "length 9,216 under maximum 9,216",
             9_216,
             &["S 5 0 9216 784 1", "E 9221 1 0"],
-        ),
+        )
+        .waiting(&["S 5 0 9216 784 1 0", "E 9221 1 0"]),
         with(
             "length-9217",
             "length 9,217 under maximum 9,216: a refused event",
             9_217,
             &["D 5 0 9217 3", "E 5 0 1"],
-        ),
+        )
+        .waiting(&["D 5 0 9217 3 0", "E 5 0 1"]),
     ]
 }
 
@@ -214,19 +254,26 @@ fn waiting_cases() -> Vec<Case> {
             "32 packets at tick 0: all accepted",
             &[0; 32],
             &["S 0 0 10 90 1", "S 310 0 10 80 0", "E 320 32 0"],
-        ),
+        )
+        .waiting(&["S 0 0 10 90 1 310", "S 310 0 10 80 0 0"]),
         with(
             "waiting-33",
             "33 packets at tick 0: the last refused",
             &[0; 33],
             &["D 0 0 10 4", "S 310 0 10 80 0", "E 320 32 1"],
-        ),
+        )
+        .waiting(&["D 0 0 10 4 320", "S 0 0 10 90 1 310", "E 320 32 1"]),
         with(
             "waiting-room-again",
             "32 packets at tick 0, one more when the first has left: it finds room",
             &[&[0; 32][..], &[10]].concat(),
             &["S 310 0 10 80 0", "S 320 0 10 70 0", "E 330 33 0"],
-        ),
+        )
+        .waiting(&[
+            "S 0 0 10 90 1 310",
+            "S 10 0 10 80 0 310",
+            "S 310 0 10 80 0 10",
+        ]),
     ]
 }
 
@@ -245,15 +292,112 @@ fn tick_cases() -> Vec<Case> {
             "S 87 1 20 40 0",
             "E 107 4 0",
         ],
-    )]
+    )
+    .waiting(&[
+        "S 7 0 30 70 1 0",
+        "S 37 0 10 60 0 0",
+        "S 47 1 40 60 1 20",
+        "S 87 1 20 40 0 0",
+        "E 107 4 0",
+    ])]
+}
+
+/// A refused event tells the bytes that wait in its flow when it is refused.
+fn refused_cases() -> Vec<Case> {
+    let longest = [&[(0, 0, 9_216); 32][..], &[(0, 0, 0), (0, 0, 9_216)]].concat();
+    vec![
+        // 32 x 9,216 are 294,912, and 31 of them 285,696
+        case(
+            "bytes-294912",
+            "32 of the longest packets, the most bytes that can wait; then length 0 and a 33rd",
+            &[(9_216, 9_216)],
+            &longest,
+            &[
+                "D 0 0 0 2",
+                "D 0 0 9216 4",
+                "S 0 0 9216 0 1",
+                "E 294912 32 2",
+            ],
+        )
+        .waiting(&[
+            "D 0 0 0 2 294912",
+            "D 0 0 9216 4 294912",
+            "S 0 0 9216 0 1 285696",
+            "S 9216 0 9216 0 1 276480",
+            "S 285696 0 9216 0 1 0",
+        ]),
+        case(
+            "bytes-between",
+            "refused events between accepted ones of one tick",
+            &[(100, 100)],
+            &[(7, 0, 30), (7, 0, 101), (7, 0, 20), (7, 0, 0), (37, 0, 10)],
+            &["D 7 0 101 3", "D 7 0 0 2", "S 7 0 30 70 1", "E 67 3 2"],
+        )
+        .waiting(&[
+            "D 7 0 101 3 30",
+            "D 7 0 0 2 50",
+            "S 7 0 30 70 1 20",
+            "S 37 0 20 50 0 10",
+            "S 57 0 10 40 0 0",
+        ]),
+    ]
+}
+
+/// Nothing waits in a flow that the table does not have.
+fn unknown_flow_cases() -> Vec<Case> {
+    vec![
+        case(
+            "bytes-unknown-flow",
+            "flow numbers 3, 16 and 65,535 beside three flows, one of them with packets waiting",
+            &[(500, 800), (300, 800), (400, 600)],
+            &[
+                (0, 0, 200),
+                (0, 0, 750),
+                (0, 3, 10),
+                (0, 16, 10),
+                (0, 65_535, 10),
+            ],
+            &[
+                "D 0 3 10 1",
+                "D 0 65535 10 1",
+                "S 200 0 750 50 1",
+                "E 950 2 3",
+            ],
+        )
+        .waiting(&[
+            "D 0 3 10 1 0",
+            "D 0 16 10 1 0",
+            "D 0 65535 10 1 0",
+            "S 0 0 200 300 1 750",
+            "S 200 0 750 50 1 0",
+        ]),
+        case(
+            "bytes-unknown-flow-of-16",
+            "flow numbers 16 and 65,535 beside 16 flows, the first and last with one waiting",
+            &[(160, 160); 16],
+            &[(0, 15, 100), (0, 0, 90), (0, 16, 1), (0, 65_535, 1)],
+            &[
+                "D 0 16 1 1",
+                "S 0 0 90 70 1",
+                "S 90 15 100 60 1",
+                "E 190 2 2",
+            ],
+        )
+        .waiting(&[
+            "D 0 16 1 1 0",
+            "D 0 65535 1 1 0",
+            "S 0 0 90 70 1 0",
+            "S 90 15 100 60 1 0",
+        ]),
+    ]
 }
 
 const README: &str = "# Stored cases
 
-Each `NAME.run` is a run file, `NAME.out` what `drrrun` prints for it. The listings of `worked` and
-`no-events` are the requirement's own. The others are the second program's (`tests/second/drr.rs`),
-which had to have in them, in this order, the lines that `tests/second/cases.rs` gives for each case,
-worked out by hand from the requirement.
+Each `NAME.run` is a run file, `NAME.out` what `drrrun` prints for it, `NAME.waiting` what it prints
+with `--waiting`. The listings `NAME.out` of `worked` and `no-events` are the requirement's own. The
+others are the second program's (`tests/second/drr.rs`), which had to have in them, in this order, the
+lines that `tests/second/cases.rs` gives for each case, worked out by hand from the requirement.
 
 `tests/second/run` checks all of them. After it has built the programs, this writes them again:
 
@@ -277,23 +421,33 @@ fn main() {
     }
 }
 
-fn second(file: &[u8]) -> String {
-    drr::text(&drr::run(file, 6 * 1_025))
+/// A stored listing: how its name ends, the words that `drrrun` is given for it, what the second
+/// program prints, and the lines that it must have.
+type Listing = (&'static str, Vec<String>, String, &'static [&'static str]);
+
+fn listings(case: &Case) -> [Listing; 2] {
+    let [plain, waiting] = drr::texts(&case.file);
+    let word = vec!["--waiting".to_string()];
+    [
+        ("out", vec![], plain, case.telling),
+        ("waiting", word, waiting, case.waiting),
+    ]
 }
 
-/// Whether the listing has these lines in this order.
+/// Whether the listing has these lines, of which there must be some, in this order.
 fn has_in_order(listing: &str, telling: &[&str]) -> bool {
     let mut lines = listing.lines();
-    telling.iter().all(|line| lines.any(|other| other == *line))
+    !telling.is_empty() && telling.iter().all(|line| lines.any(|other| other == *line))
 }
 
 fn write(dir: &Path) -> Result<bool> {
     let mut readme = README.to_string();
     for case in cases() {
-        let listing = second(&case.file);
-        assert!(has_in_order(&listing, case.telling), "{}", case.name);
         std::fs::write(dir.join(format!("{}.run", case.name)), &case.file)?;
-        std::fs::write(dir.join(format!("{}.out", case.name)), listing)?;
+        for (end, _, listing, telling) in listings(&case) {
+            assert!(has_in_order(&listing, telling), "{}.{end}", case.name);
+            std::fs::write(dir.join(format!("{}.{end}", case.name)), listing)?;
+        }
         readme += &format!("- `{}`: {}\n", case.name, case.says);
     }
     std::fs::write(dir.join("README.md"), readme)?;
@@ -314,20 +468,26 @@ fn check(drrrun: &str, dir: &Path) -> Result<bool> {
 
 fn verdict(case: &Case, drrrun: &str, dir: &Path) -> &'static str {
     let stored = |end| std::fs::read(dir.join(format!("{}.{end}", case.name)));
-    let (Ok(file), Ok(listing)) = (stored("run"), stored("out")) else {
+    let Ok(file) = stored("run") else {
         return "MISSING";
     };
     if file != case.file {
         return "NOT THE FILE DESCRIBED";
     }
-    if !has_in_order(&String::from_utf8_lossy(&listing), case.telling) {
-        return "WITHOUT ITS TELLING LINES";
+    for (end, words, second, telling) in listings(case) {
+        let Ok(listing) = stored(end) else {
+            return "MISSING";
+        };
+        if !has_in_order(&String::from_utf8_lossy(&listing), telling) {
+            return "WITHOUT ITS TELLING LINES";
+        }
+        if second.as_bytes() != listing {
+            return "SECOND PROGRAM DIFFERS";
+        }
+        match process::run(drrrun, &words, &file) {
+            Ok(given) if given.status.success() && given.stdout == listing => {}
+            _ => return "DRRRUN DIFFERS",
+        }
     }
-    if second(&file).as_bytes() != listing {
-        return "SECOND PROGRAM DIFFERS";
-    }
-    match process::run(drrrun, &[], &file) {
-        Ok(given) if given.status.success() && given.stdout == listing => "ok",
-        _ => "DRRRUN DIFFERS",
-    }
+    "ok"
 }

@@ -1,5 +1,5 @@
-//! A second, independent implementation of the requirement: the scheduler, its two figures and the
-//! run. The proved program is compared with it.
+//! A second, independent implementation of the requirement: the scheduler, its two figures, the
+//! waiting bytes and the run. The proved program is compared with it.
 
 // each program that takes this file in uses only a part of it
 #![allow(dead_code)]
@@ -22,6 +22,8 @@ pub struct State {
     pub deficits: [u32; 16],
     /// Packets waiting, per flow.
     pub counts: [u8; 16],
+    /// The sum of the waiting lengths, per flow.
+    pub sums: [u32; 16],
     /// The flow visited last.
     pub place: usize,
     /// Whether the visit to the place is open.
@@ -62,6 +64,7 @@ pub fn empty() -> State {
         maxima: [0; 16],
         deficits: [0; 16],
         counts: [0; 16],
+        sums: [0; 16],
         place: 0,
         opened: false,
         rows: [[0; 32]; 16],
@@ -108,6 +111,7 @@ pub fn sound(s: &State) -> bool {
         && place_fits
         && (0..s.n).all(|f| numbers_in_range(s, f))
         && (0..s.n).all(|f| lengths_in_range(s, f))
+        && (0..s.n).all(|f| sum_is_true(s, f))
         && (0..s.n).all(|f| deficit_fits(s, f))
         && unused_is_zero(s)
 }
@@ -117,10 +121,19 @@ fn numbers_in_range(s: &State, f: usize) -> bool {
 }
 
 fn lengths_in_range(s: &State, f: usize) -> bool {
-    let waiting = &s.rows[f][..usize::from(s.counts[f])];
-    waiting
+    waiting_lengths(s, f)
         .iter()
         .all(|&length| length >= 1 && u32::from(length) <= s.maxima[f])
+}
+
+fn sum_is_true(s: &State, f: usize) -> bool {
+    let lengths = waiting_lengths(s, f).iter();
+    s.sums[f] == lengths.map(|&length| u32::from(length)).sum::<u32>()
+}
+
+/// The waiting lengths of a flow whose count is in range.
+fn waiting_lengths(s: &State, f: usize) -> &[u16] {
+    &s.rows[f][..usize::from(s.counts[f])]
 }
 
 fn deficit_fits(s: &State, f: usize) -> bool {
@@ -138,6 +151,7 @@ fn unused_is_zero(s: &State) -> bool {
     let numbers = |f: usize| s.quanta[f] == 0 && s.maxima[f] == 0 && s.deficits[f] == 0;
     (0..s.n).all(|f| cells(f, usize::from(s.counts[f])))
         && (s.n..16).all(|f| numbers(f) && s.counts[f] == 0 && cells(f, 0))
+        && (s.n..16).all(|f| s.sums[f] == 0)
 }
 
 /// An arrival: the refusal number, or 0 where it was accepted.
@@ -165,6 +179,7 @@ fn book(s: &mut State, flow: usize, length: u32) -> u32 {
         *end = length as u16;
     }
     s.counts[flow] += 1;
+    s.sums[flow] += length;
     0
 }
 
@@ -225,6 +240,7 @@ fn send(s: &mut State, visits: u32) -> Picked {
     s.rows[flow].copy_within(1.., 0);
     s.rows[flow][31] = 0;
     s.counts[flow] -= 1;
+    s.sums[flow] -= length;
     let deficit = s.deficits[flow] - length;
     s.deficits[flow] = deficit;
     Picked::Sent {
@@ -276,6 +292,21 @@ pub fn wait(s: &State, flow: usize) -> Result<u64, u32> {
 pub fn lag(s: &State, flow: usize) -> Result<u64, u32> {
     owed(s, flow, 0)?;
     Ok(charge_c(s, flow) as u64)
+}
+
+/// The bytes that wait in a flow; refusals 8 and 1.
+pub fn waiting_bytes(s: &State, flow: usize) -> Result<u64, u32> {
+    match (sound(s), flow < s.n) {
+        (false, _) => Err(8),
+        (true, false) => Err(1),
+        (true, true) => Ok(waiting_in(s, flow)),
+    }
+}
+
+/// The bytes that wait in a flow of a sound state; 0 for a flow that the table does not have. A run
+/// asks with this.
+fn waiting_in(s: &State, flow: usize) -> u64 {
+    s.sums.get(flow).map_or(0, |&sum| sum.into())
 }
 
 /// The least number that holds. What holds for one number holds for all above it, and for `most`,
@@ -429,6 +460,18 @@ fn test_ticks(events: &[Event]) -> Result<(), Refused> {
 
 /// Runs a file; `room` is how many numbers the lent list takes.
 pub fn run(file: &[u8], room: usize) -> Result<Vec<[u64; 6]>, Refused> {
+    let lines = listed(file, room)?;
+    Ok(lines.iter().map(|line| line.numbers).collect())
+}
+
+/// A line of a listing.
+struct Line {
+    numbers: [u64; 6],
+    /// The bytes that then wait in its flow; 0 for the last line, which has no flow.
+    waiting: u64,
+}
+
+fn listed(file: &[u8], room: usize) -> Result<Vec<Line>, Refused> {
     let RunFile { flows, events } = read(file)?;
     if room < 6 * (events.len() + 1) {
         return refused(14, 0);
@@ -441,7 +484,7 @@ struct Run<'a> {
     state: State,
     /// The events not yet booked.
     events: &'a [Event],
-    lines: Vec<[u64; 6]>,
+    lines: Vec<Line>,
     refused: u64,
 }
 
@@ -457,8 +500,9 @@ impl Run<'_> {
             let number = book(&mut self.state, flow.into(), length.into());
             if number != 0 {
                 self.refused += 1;
-                self.lines
-                    .push([2, tick, flow.into(), length.into(), number.into(), 0]);
+                let numbers = [2, tick, flow.into(), length.into(), number.into(), 0];
+                let waiting = waiting_in(&self.state, flow.into());
+                self.lines.push(Line { numbers, waiting });
             }
         }
     }
@@ -475,14 +519,15 @@ impl Run<'_> {
             return None;
         };
         let answer = [length, deficit, visits].map(u64::from);
-        self.lines
-            .push([1, now, flow as u64, answer[0], answer[1], answer[2]]);
+        let numbers = [1, now, flow as u64, answer[0], answer[1], answer[2]];
+        let waiting = waiting_in(&self.state, flow);
+        self.lines.push(Line { numbers, waiting });
         Some(answer[0])
     }
 }
 
 /// The run of a fresh state on a line that sends one byte per tick.
-fn listing(state: State, events: &[Event]) -> Vec<[u64; 6]> {
+fn listing(state: State, events: &[Event]) -> Vec<Line> {
     let mut run = Run {
         state,
         events,
@@ -506,16 +551,42 @@ fn listing(state: State, events: &[Event]) -> Vec<[u64; 6]> {
             break;
         }
     }
-    run.lines.push([3, end, sent, run.refused, 0, 0]);
+    run.lines.push(Line {
+        numbers: [3, end, sent, run.refused, 0, 0],
+        waiting: 0,
+    });
     run.lines
 }
 
 /// What `drrrun` prints for an answer.
 pub fn text(answer: &Result<Vec<[u64; 6]>, Refused>) -> String {
     match answer {
-        Ok(lines) => lines.iter().map(line_text).collect(),
-        Err(refused) => format!("R {} {}\n", refused.number, refused.place),
+        Ok(lines) => lines.iter().map(|line| line_text(line) + "\n").collect(),
+        Err(refused) => refused_text(refused),
     }
+}
+
+fn refused_text(refused: &Refused) -> String {
+    format!("R {} {}\n", refused.number, refused.place)
+}
+
+/// What `drrrun` prints for a file without a word, and with `--waiting`: then each line of a packet,
+/// sent or refused, has at its end the bytes that wait in its flow.
+pub fn texts(file: &[u8]) -> [String; 2] {
+    // room for 1,025 lines of six numbers: refusal 14 cannot occur here
+    let lines = match listed(file, 6 * 1_025) {
+        Ok(lines) => lines,
+        Err(refused) => return [refused_text(&refused), refused_text(&refused)],
+    };
+    let plain = |line: &Line| line_text(&line.numbers) + "\n";
+    let waiting = |line: &Line| match line.numbers[0] {
+        1 | 2 => format!("{} {}\n", line_text(&line.numbers), line.waiting),
+        _ => plain(line),
+    };
+    [
+        lines.iter().map(plain).collect(),
+        lines.iter().map(waiting).collect(),
+    ]
 }
 
 /// One line: a letter for its kind, and the fields that this kind prints.
@@ -529,7 +600,7 @@ fn line_text(line: &[u64; 6]) -> String {
     for field in &line[1..=fields] {
         text += &format!(" {field}");
     }
-    text + "\n"
+    text
 }
 
 /// How `drrfigures` is asked to print its figures.
@@ -548,7 +619,7 @@ pub struct Dress {
 pub fn figures_text(file: &[u8], sizes: &[u32], dress: Dress) -> String {
     let state = match read_flows(file).and_then(|flows| setup(&flows)) {
         Ok(state) => state,
-        Err(refused) => return text(&Err(refused)),
+        Err(refused) => return refused_text(&refused),
     };
     let lines = (0..state.n).map(|flow| figures_of(&state, flow, sizes, dress.rate));
     let titles = dress.header.then(|| titles(sizes, dress.rate));
@@ -636,8 +707,13 @@ mod tests {
         file
     }
 
-    fn listed(flows: &[(u32, u32)], events: &[(u32, u16, u16)]) -> String {
+    fn run_of(flows: &[(u32, u32)], events: &[(u32, u16, u16)]) -> String {
         text(&run(&file(flows, events), 6 * (events.len() + 1)))
+    }
+
+    fn waiting_of(flows: &[(u32, u32)], events: &[(u32, u16, u16)]) -> String {
+        let [_, waiting] = texts(&file(flows, events));
+        waiting
     }
 
     #[test]
@@ -707,6 +783,16 @@ mod tests {
         assert_eq!(s, table());
     }
 
+    /// The events of the worked example.
+    const WORKED: [(u32, u16, u16); 6] = [
+        (0, 0, 200),
+        (0, 0, 750),
+        (0, 1, 500),
+        (0, 2, 400),
+        (100, 2, 700),
+        (900, 1, 250),
+    ];
+
     /// The worked example, with the state after each call.
     #[test]
     fn worked_example_state_by_state() {
@@ -744,20 +830,67 @@ mod tests {
         assert_eq!(s, end);
     }
 
+    /// The same, with the bytes waiting in each flow after each call.
+    #[test]
+    fn worked_example_sum_by_sum() {
+        let mut s = table();
+        let seen = |s: &State| [0, 1, 2].map(|flow| waiting_bytes(s, flow));
+        let are = |bytes: [u64; 3]| bytes.map(Ok);
+        assert_eq!(seen(&s), are([0, 0, 0]));
+        let after = [[200, 0, 0], [950, 0, 0], [950, 500, 0], [950, 500, 400]];
+        for (&(_, flow, length), bytes) in WORKED.iter().zip(after) {
+            assert_eq!(arrival(&mut s, flow.into(), length.into()), 0);
+            assert_eq!(seen(&s), are(bytes));
+        }
+        assert_eq!(pick(&mut s), sent(0, 200, 300, 1));
+        assert_eq!(seen(&s), are([750, 500, 400]));
+        assert_eq!(arrival(&mut s, 2, 700), 3);
+        assert_eq!(seen(&s), are([750, 500, 400]));
+        assert_eq!(pick(&mut s), sent(2, 400, 0, 2));
+        assert_eq!(seen(&s), are([750, 500, 0]));
+        assert_eq!(pick(&mut s), sent(0, 750, 50, 1));
+        assert_eq!(seen(&s), are([0, 500, 0]));
+        assert_eq!(arrival(&mut s, 1, 250), 0);
+        assert_eq!(seen(&s), are([0, 750, 0]));
+        assert_eq!(pick(&mut s), sent(1, 500, 100, 1));
+        assert_eq!(seen(&s), are([0, 250, 0]));
+        assert_eq!(pick(&mut s), sent(1, 250, 150, 1));
+        assert_eq!(seen(&s), are([0, 0, 0]));
+    }
+
     #[test]
     fn worked_example_as_a_run_file() {
-        let events = [
-            (0, 0, 200),
-            (0, 0, 750),
-            (0, 1, 500),
-            (0, 2, 400),
-            (100, 2, 700),
-            (900, 1, 250),
-        ];
-        assert_eq!(file(&TABLE, &events).len(), 92);
+        assert_eq!(file(&TABLE, &WORKED).len(), 92);
         let expected = "S 0 0 200 300 1\nD 100 2 700 3\nS 200 2 400 0 2\nS 600 0 750 50 1\n\
                         S 1350 1 500 100 1\nS 1850 1 250 150 1\nE 2100 5 1\n";
-        assert_eq!(listed(&TABLE, &events), expected);
+        assert_eq!(run_of(&TABLE, &WORKED), expected);
+        assert_eq!(texts(&file(&TABLE, &WORKED))[0], expected);
+    }
+
+    #[test]
+    fn worked_example_with_the_bytes_waiting() {
+        let expected = "S 0 0 200 300 1 750\nD 100 2 700 3 400\nS 200 2 400 0 2 0\n\
+                        S 600 0 750 50 1 0\nS 1350 1 500 100 1 250\nS 1850 1 250 150 1 0\n\
+                        E 2100 5 1\n";
+        assert_eq!(waiting_of(&TABLE, &WORKED), expected);
+        assert_eq!(texts(&file(&TABLE, &WORKED)[1..]), ["R 9 0\n", "R 9 0\n"]);
+        assert_eq!(waiting_of(&TABLE, &[(1, 0, 1), (0, 0, 1)]), "R 13 1\n");
+        assert_eq!(waiting_of(&TABLE, &[]), "E 0 0 0\n");
+    }
+
+    /// A refused event tells what waits when it is refused, and not what is booked behind it.
+    #[test]
+    fn bytes_waiting_at_a_refusal() {
+        let events = [
+            (7, 0, 30),
+            (7, 0, 801),
+            (7, 0, 20),
+            (7, 3, 1),
+            (7, 65_535, 1),
+        ];
+        let expected = "D 7 0 801 3 30\nD 7 3 1 1 0\nD 7 65535 1 1 0\n\
+                        S 7 0 30 470 1 20\nS 37 0 20 450 0 0\nE 57 2 3\n";
+        assert_eq!(waiting_of(&TABLE, &events), expected);
     }
 
     #[test]
@@ -829,7 +962,9 @@ mod tests {
         let full = s.clone();
         assert_eq!(arrival(&mut s, 0, 100), 4);
         assert_eq!(s, full);
+        assert_eq!(waiting_bytes(&s, 0), Ok(3_200));
         pick(&mut s);
+        assert_eq!(waiting_bytes(&s, 0), Ok(3_100));
         assert_eq!(arrival(&mut s, 0, 100), 0);
         assert_eq!(arrival(&mut s, 0, 100), 4);
     }
@@ -846,8 +981,12 @@ mod tests {
         assert_eq!(arrival(&mut s, 3, 0), 8);
         assert_eq!(pick(&mut s), Picked::Refused(8));
         assert_eq!((owed(&s, 3, 1), wait(&s, 3)), (Err(8), Err(8)));
+        assert_eq!(waiting_bytes(&s, 3), Err(8));
         s.place = 2;
         assert_eq!((owed(&s, 3, 1), wait(&s, 3)), (Err(1), Err(1)));
+        assert_eq!(waiting_bytes(&s, 3), Err(1));
+        assert_eq!(waiting_bytes(&s, usize::MAX), Err(1));
+        assert_eq!(waiting_bytes(&empty(), 0), Err(1));
         assert_eq!(arrival(&mut empty(), 0, 0), 1);
         assert_eq!(pick(&mut empty()), Picked::Idle);
     }
@@ -883,6 +1022,7 @@ mod tests {
             change(&mut s);
             sound(&s)
         };
+        // flow 1 has 500 and 10 waiting; where a fault changes a length, the sum follows
         let faults: [fn(&mut State); 16] = [
             |s| s.n = 17,
             |s| s.place = 3,
@@ -891,8 +1031,8 @@ mod tests {
             |s| s.maxima[2] = 0,
             |s| s.maxima[2] = 9_217,
             |s| s.counts[1] = 33,
-            |s| s.rows[1][1] = 0,
-            |s| s.rows[1][1] = 801,
+            |s| (s.rows[1][1], s.sums[1]) = (0, 500),
+            |s| (s.rows[1][1], s.sums[1]) = (801, 1_301),
             |s| s.deficits[2] = 1,
             |s| s.deficits[1] = 500,
             |s| s.deficits[0] = 500,
@@ -905,7 +1045,47 @@ mod tests {
             assert!(!changed(fault), "fault {place}");
         }
         assert!(changed(|s| s.deficits[0] = 499));
-        assert!(changed(|s| s.rows[1][1] = 800));
+        assert!(changed(|s| (s.rows[1][1], s.sums[1]) = (800, 1_300)));
+    }
+
+    /// The sum of a flow that has packets waiting, of one that has none, and of one not in the table.
+    #[test]
+    fn a_false_sum_is_not_sound() {
+        let with = |flow: usize, sum: u32| {
+            let mut s = busy();
+            s.sums[flow] = sum;
+            s
+        };
+        assert!(sound(&with(1, 510)) && sound(&with(0, 0)) && sound(&with(15, 0)));
+        let faults = [(1, 509), (1, 511), (1, 500), (1, 0), (1, 510 + 65_536)];
+        let of_none = [0, 2, 3, 15].map(|flow| [(flow, 1), (flow, u32::MAX)]);
+        for (flow, sum) in faults.into_iter().chain(of_none.into_iter().flatten()) {
+            let mut s = with(flow, sum);
+            assert_eq!(arrival(&mut s, 0, 1), 8, "flow {flow}, sum {sum}");
+            assert_eq!(pick(&mut s), Picked::Refused(8));
+            assert_eq!([waiting_bytes(&s, 0), waiting_bytes(&s, 99)], [Err(8); 2]);
+            assert_eq!(s, with(flow, sum));
+        }
+        let mut s = busy();
+        s.rows[1][1] = 11;
+        assert!(!sound(&s));
+    }
+
+    /// The most that can wait: 32 packets of 9,216 bytes, in every flow.
+    #[test]
+    fn the_largest_sum() {
+        let mut s = setup(&[(65_535, 9_216); 16]).unwrap();
+        for call in 0..16 * 33 {
+            let refusal = if call / 16 == 32 { 4 } else { 0 };
+            assert_eq!(arrival(&mut s, call % 16, 9_216), refusal);
+        }
+        assert!((0..16).all(|flow| waiting_bytes(&s, flow) == Ok(294_912)));
+        pick(&mut s);
+        assert_eq!(waiting_bytes(&s, 0), Ok(285_696));
+        s.rows[5][31] = 9_215;
+        assert!(!sound(&s));
+        s.sums[5] -= 1;
+        assert_eq!(waiting_bytes(&s, 5), Ok(294_911));
     }
 
     #[test]
@@ -922,19 +1102,26 @@ mod tests {
         assert!(!sound(&s));
     }
 
-    /// A run leaves out the test for 8, because every state it can reach is sound.
+    /// A run leaves out the test for 8, because every state it can reach is sound. On the way there, of
+    /// each flow the bytes accepted are the bytes sent and the bytes waiting.
     #[test]
     fn states_stay_sound() {
         let mut dice = 1_u32;
         let mut s = setup(&[(1, 50), (70, 60), (20, 9_216)]).unwrap();
+        let (mut accepted, mut sent) = ([0; 3], [0; 3]);
         for _ in 0..50_000 {
             dice = dice.wrapping_mul(1_664_525).wrapping_add(1_013_904_223);
             if dice >> 31 == 0 {
-                arrival(&mut s, (dice >> 24) as usize % 4, (dice >> 16) % 64);
-            } else {
-                pick(&mut s);
+                let (flow, length) = ((dice >> 24) as usize % 4, (dice >> 16) % 64);
+                if arrival(&mut s, flow, length) == 0 {
+                    accepted[flow] += u64::from(length);
+                }
+            } else if let Picked::Sent { flow, length, .. } = pick(&mut s) {
+                sent[flow] += u64::from(length);
             }
             assert!(sound(&s));
+            let waiting = [0, 1, 2].map(|flow| accepted[flow] - sent[flow]);
+            assert_eq!(waiting.map(Ok), [0, 1, 2].map(|f| waiting_bytes(&s, f)));
         }
     }
 
@@ -946,9 +1133,11 @@ mod tests {
         s.quanta = [u32::MAX; 16];
         s.maxima = [u32::MAX; 16];
         s.counts = [u8::MAX; 16];
+        s.sums = [u32::MAX; 16];
         assert_eq!(arrival(&mut s, usize::MAX, u32::MAX), 8);
         assert_eq!(pick(&mut s), Picked::Refused(8));
         assert_eq!(owed(&s, 0, u64::MAX), Err(8));
+        assert_eq!(waiting_bytes(&s, usize::MAX), Err(8));
         assert!(charge_c(&s, 0) > 0 && charge_c(&s, 16) == 0);
     }
 
@@ -983,9 +1172,9 @@ mod tests {
 
     #[test]
     fn tick_of_the_last_line() {
-        assert_eq!(listed(&TABLE, &[]), "E 0 0 0\n");
-        assert_eq!(listed(&TABLE, &[(7, 3, 1)]), "D 7 3 1 1\nE 7 0 1\n");
-        let late = listed(&TABLE, &[(7, 2, 9), (99, 0, 0)]);
+        assert_eq!(run_of(&TABLE, &[]), "E 0 0 0\n");
+        assert_eq!(run_of(&TABLE, &[(7, 3, 1)]), "D 7 3 1 1\nE 7 0 1\n");
+        let late = run_of(&TABLE, &[(7, 2, 9), (99, 0, 0)]);
         assert_eq!(late, "S 7 2 9 391 1\nD 99 0 0 2\nE 16 1 1\n");
     }
 }

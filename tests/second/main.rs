@@ -1,5 +1,6 @@
 //! The second program as a program: standard input to standard output. Without a word it is `drrrun`, which
-//! lists the run of a file; the words `drrmake` and `drrshow` make it those two.
+//! lists the run of a file, and `--waiting` is that program's own word; the words `drrmake` and `drrshow` make
+//! it those two.
 
 use std::io::{stderr, stdin, stdout, Error, Read, Result, Write};
 
@@ -9,12 +10,10 @@ mod textform;
 fn main() -> Result<()> {
     let mut input = Vec::new();
     stdin().read_to_end(&mut input)?;
+    let [plain, waiting] = drr::texts(&input).map(String::into_bytes);
     let (output, error) = match std::env::args().nth(1).as_deref() {
-        // room for 1,025 lines of six numbers: refusal 14 cannot occur here
-        None => (
-            drr::text(&drr::run(&input, 6 * 1_025)).into_bytes(),
-            String::new(),
-        ),
+        None => (plain, String::new()),
+        Some("--waiting") => (waiting, String::new()),
         Some("drrmake") => textform::made(&input),
         Some("drrshow") => (textform::show(&input).into_bytes(), String::new()),
         Some(word) => return Err(Error::other(format!("no such program: {word}"))),

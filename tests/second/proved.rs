@@ -14,6 +14,7 @@ impl From<&drr::State> for State {
         let line = Line {
             deficits: s.deficits,
             counts: s.counts,
+            sums: s.sums,
             place: s.place,
             opened: s.opened,
             rows: s.rows.map(|lengths| Row { lengths }),

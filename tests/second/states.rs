@@ -55,6 +55,7 @@ pub fn sound_state(dice: &mut Dice) -> State {
             s.rows[f][k] = dice.one_of(&[1, length, length, maximum]) as u16;
         }
     }
+    true_sums(&mut s);
     s.place = dice.between(0, s.n as u32 - 1) as usize;
     s.opened = dice.once_in(2);
     for f in 0..s.n {
@@ -69,11 +70,22 @@ pub fn sound_state(dice: &mut Dice) -> State {
     s
 }
 
+/// Makes the sums those of the lengths that the counts say are waiting, 0 for unused flows. This is
+/// not left to the second program, which may have been altered.
+fn true_sums(s: &mut State) {
+    s.sums = [0; 16];
+    for f in 0..s.n.min(16) {
+        for &length in s.rows[f].iter().take(s.counts[f].into()) {
+            s.sums[f] += u32::from(length);
+        }
+    }
+}
+
 /// Ways to break one clause of soundness: the clause, and the change; a change that does not apply
 /// to a state gives false.
 pub type Break = (&'static str, fn(&mut State, &mut Dice) -> bool);
 
-pub const BREAKS: [Break; 15] = [
+pub const BREAKS: [Break; 20] = [
     ("n above 16", |s, dice| {
         s.n = dice.one_of(&[17, 18, 255, 1 << 32, usize::MAX]);
         true
@@ -123,6 +135,7 @@ pub const BREAKS: [Break; 15] = [
         let f = a_flow(s, dice);
         let k = dice.between(0, 31) as usize;
         s.rows[f][k] = 0;
+        true_sums(s);
         // the oldest length bounds the deficit, which is another clause
         k > 0 && k < usize::from(s.counts[f])
     }),
@@ -131,7 +144,37 @@ pub const BREAKS: [Break; 15] = [
         let k = dice.between(0, 31) as usize;
         let above = s.maxima[f].min(65_534) as u16 + 1;
         s.rows[f][k] = dice.one_of(&[above, u16::MAX]);
+        true_sums(s);
         k < usize::from(s.counts[f])
+    }),
+    ("a sum one more", |s, dice| {
+        let f = dice.between(0, 15) as usize;
+        s.sums[f] += 1;
+        true
+    }),
+    ("a sum one less", |s, dice| {
+        let f = dice.between(0, 15) as usize;
+        s.sums[f] = s.sums[f].wrapping_sub(1);
+        true
+    }),
+    ("a sum true in its lower 16 bits", |s, dice| {
+        let f = dice.between(0, 15) as usize;
+        s.sums[f] ^= dice.one_of(&[1 << 16, 1 << 18, 1 << 31]);
+        true
+    }),
+    ("the sums of two flows exchanged", |s, dice| {
+        let (f, g) = (a_flow(s, dice), a_flow(s, dice));
+        s.sums.swap(f, g);
+        s.sums[f] != s.sums[g]
+    }),
+    ("another length than the one summed", |s, dice| {
+        let f = a_flow(s, dice);
+        let last = usize::from(s.counts[f]).saturating_sub(1);
+        let length = dice.between(1, s.maxima[f].max(1)) as u16;
+        let other = s.rows[f][last] != length;
+        s.rows[f][last] = length;
+        // the oldest length bounds the deficit, which is another clause
+        other && last > 0
     }),
     ("credit in an empty flow without a visit", |s, dice| {
         let f = a_flow(s, dice);
@@ -161,11 +204,12 @@ fn a_flow(s: &State, dice: &mut Dice) -> usize {
 fn spoil_unused(s: &mut State, dice: &mut Dice) -> bool {
     let f = dice.between(0, 15) as usize;
     if f >= s.n {
-        match dice.between(0, 4) {
+        match dice.between(0, 5) {
             0 => s.quanta[f] = dice.one_of(&[1, 500, u32::MAX]),
             1 => s.maxima[f] = dice.one_of(&[1, 800, u32::MAX]),
             2 => s.deficits[f] = dice.one_of(&[1, u32::MAX]),
             3 => s.counts[f] = dice.one_of(&[1, 32, 255]),
+            4 => s.sums[f] = dice.one_of(&[1, 9_216, u32::MAX]),
             _ => s.rows[f][dice.between(0, 31) as usize] = dice.one_of(&[1, u16::MAX]),
         }
         return true;
@@ -177,9 +221,10 @@ fn spoil_unused(s: &mut State, dice: &mut Dice) -> bool {
     used < 32
 }
 
-/// Any numbers at all in every part.
+/// Any numbers at all in every part; in half of the states the sums are true of the other numbers.
 pub fn any_state(dice: &mut Dice) -> State {
     let mut s = empty();
+    let summed = dice.once_in(2);
     let bits = dice.between(1, 32);
     let mut number = || (dice.next() >> (64 - bits)) as u32;
     s.n = number() as usize;
@@ -190,7 +235,11 @@ pub fn any_state(dice: &mut Dice) -> State {
         s.maxima[f] = number();
         s.deficits[f] = number();
         s.counts[f] = number() as u8;
+        s.sums[f] = number();
         s.rows[f].fill_with(|| number() as u16);
+    }
+    if summed {
+        true_sums(&mut s);
     }
     s
 }
