@@ -93,7 +93,7 @@ pick-hands-back s = call-hands-back s _ _ (λ some. absurd (some (pick-fine (s .
 pub setup-gives-empty : (xs : List FlowRecord) → (setupReply xs .answer .refusal ≡ 0 → ⊥) → setupReply xs .state ≡ emptyTable
 setup-gives-empty = setup-refused
 
--- a refused run leaves the lent list as it came
+-- a refused run leaves the lent list as it came, and one with two lists leaves both
 pub run-leaves : (b out : List ℕ) → (runAnswer b (length out) .refusal ≡ 0 → ⊥) → filled b out ≡ out
 run-leaves = run-claims.refused-leaves
 

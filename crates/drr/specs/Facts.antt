@@ -42,6 +42,7 @@ pub record FlowFacts (T : Table) (f : ℕ) (visited : Bool) (deficit count sum :
   pub unused : T .n ≤ f → Unused (quantumOf T f) (maximumOf T f) deficit count
   pub waiting : (k : ℕ) → k < mostWaiting → k < count → (1 ≤ getD lengths k 0) × (getD lengths k 0 ≤ maximumOf T f)
   pub rest : (k : ℕ) → k < mostWaiting → count ≤ k → getD lengths k 0 ≡ 0
+  -- E1: "a state where it is false is not sound"
   pub true-sum : sum ≡ bytesOf (take count lengths)
 
 abbrev pub Flow : Table → Line → ℕ → Type 0

@@ -57,7 +57,7 @@ pub struct Row {
     pub lengths: [u16; 32],
 }
 
-// What arrivals and picks move. A flow's sum is that of its waiting lengths.
+// What arrivals and picks move. In a sound line a flow's sum is that of its waiting lengths.
 #[repr(C)]
 pub struct Line {
     pub deficits: [u32; 16],
