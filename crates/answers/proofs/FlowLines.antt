@@ -19,7 +19,7 @@ use Rattle.drr.proofs.Bools.{by-test}
 use Rattle.drr.proofs.Facts.{of-sound}
 use Rattle.drr.proofs.Tables.{no-flows-ranged}
 use Rattle.drr.proofs.Calls.{fresh-state-sound, setup-keeps}
-use Rattle.runfile.specs.File.{headerAnswer, flowsIn, flowsReply}
+use Rattle.runfile.specs.File.{headerAnswer, flowsIn, termsIn, flowsReply}
 use Rattle.figures.specs.Time.{waitTime}
 use Rattle.figures.specs.Answers.{askedAnswer, figureIs, valueOf, timeAnswer, allFigures, figuresWithin}
 use Rattle.text.specs.Text.{refusalText, numbersText, numbersWithin, timedText, timedWithin}
@@ -28,8 +28,8 @@ use Rattle.text.proofs.Texts.{Left, left-all, left-next, left-end, Filled, fill
 use Rattle.text.proofs.Lines.{to-end, numbers-most}
 use Rattle.text.proofs.Rows.{timed-most, titles-most}
 use Rattle.answers.specs.declared.Dress.{Dress}
-use Rattle.answers.specs.Printed.{flowFigures, flowLine, flowLines, rowsText, dressedText, figuresText}
-use Rattle.answers.specs.Printed.{rowRoom, flowsRoom, mostSizes}
+use Rattle.answers.specs.Printed.{flowFigures, flowLine, flowLines, titledText, dressedText, figuresText}
+use Rattle.answers.specs.Printed.{rowRoom, flowsRoom, titledRoom, mostSizes}
 use Rattle.answers.proofs.Given.{refused-text, fine-text}
 
 figures-length : (T : Table) (sizes : List ℕ) (f : ℕ) → length (flowFigures T sizes f) ≡ 5 + length sizes
@@ -175,10 +175,10 @@ module _ (T : Table) (sizes : List ℕ) (dress : Dress) where
   abbrev pub linesOf : List ℕ
   linesOf = flowLines T sizes (dress .rate) 0 (T .n)
 
-  pub with-titles : dress .titled ≡ true → titlesOf ++ linesOf ≡ rowsText T sizes dress
+  pub with-titles : dress .titled ≡ true → titlesOf ++ linesOf ≡ titledText T sizes dress
   with-titles e = ap (λ (t : Bool). cond t titlesOf [] ++ linesOf) (sym e)
 
-  pub without-titles : dress .titled ≡ false → linesOf ≡ rowsText T sizes dress
+  pub without-titles : dress .titled ≡ false → linesOf ≡ titledText T sizes dress
   without-titles e = ap (λ (t : Bool). cond t titlesOf [] ++ linesOf) (sym e)
 
   module _ (few : length sizes ≤ mostSizes) where
@@ -194,13 +194,20 @@ module _ (T : Table) (sizes : List ℕ) (dress : Dress) where
       omega (arith, lines-most T sizes (dress .rate) few 0 (T .n)),
     )
 
+    pub titled-most : T .n ≤ mostFlows → length (titledText T sizes dress) ≤ titledRoom
+    titled-most low = by (dress .titled)
+      where
+        by : (t : Bool) → length (cond t titlesOf [] ++ linesOf) ≤ titledRoom
+        by true = omega (arith, length-append titlesOf linesOf, rows-most low)
+        by false = omega (arith, rows-most low .1)
+
 -- ---- what the reader of the flows gave
 module _ (b : List ℕ) where
   pub flows-sound : SoundState (flowsReply b .state)
   unfolding flowsReply
   flows-sound =
       by-test (λ (r : Reply). SoundState (r .state)) (eqb (headerAnswer b .refusal) 0)
-      (λ _. setup-keeps (flowsIn b)) (λ _. fresh-state-sound no-flows-ranged)
+      (λ _. setup-keeps (flowsIn b) (termsIn b)) (λ _. fresh-state-sound no-flows-ranged)
 
   module _ (sizes : List ℕ) (dress : Dress) where
     pub figures-refusal : (why : Refusal) (place : ℕ) → refusedAt (numberOf why) place ≡ flowsReply b .answer →

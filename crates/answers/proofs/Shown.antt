@@ -81,7 +81,7 @@ unfolding listing besideText lineText
 shown T [] l y rest w w' ok same = refl
 shown T (k ∷ ks) l y rest w w' ok same =
     let o = outcomeOf T l k in
-    let after = afterAct k (o .answer) y in
+    let after = afterAct T k (o .answer) y in
     lines-first (lineFor k (o .answer)) (besideOf k (o .answer) (o .line)) (listing T ks (o .line) after) (besideAll T ks (o .line))
     rest w w' (lines-of T l ok k) same
     (λ z z'. shown T ks (o .line) after rest z z' (calls-keep T l ok (callIn k ∷ [])))

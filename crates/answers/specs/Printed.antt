@@ -12,7 +12,8 @@ use Rattle.drr.specs.Figures.{lag, owed, wait}
 use Rattle.runfile.specs.File.{fileAnswer, flowsReply}
 use Rattle.runfile.specs.Listing.{runListing, runWaiting}
 use Rattle.figures.specs.Time.{waitTime}
-use Rattle.text.specs.Text.{listingText, besideText, refusalText, numbersText, timedText, titlesText, parted}
+use Rattle.text.specs.Spelt.{spelt}
+use Rattle.text.specs.Text.{listingText, besideText, refusalText, numbersText, timedText, titlesText, parted, around, aroundWithin}
 use Rattle.answers.specs.declared.Dress.{Dress}
 
 -- "for a refused file one line `R number place`", else the text of what the file gave
@@ -27,6 +28,10 @@ runText b = answerText (fileAnswer b) (listingText (runListing b))
 -- `drrrun --waiting`: beside each line but the last, the bytes then waiting in its flow
 unfoldable pub waitingText : List ℕ → List ℕ
 waitingText b = answerText (fileAnswer b) (besideText (runListing b) (runWaiting b))
+
+-- the line of a table's overhead; none where that is 0
+abbrev pub overheadText : ℕ → List ℕ
+overheadText overhead = cond (eqb overhead 0) [] (around (spelt "overhead ") overhead (10 ∷ []))
 
 -- `drrfigures`, of a flow: flow, quantum, maximum, C, wait, and owed of each number of bytes
 abbrev pub flowFigures : Table → List ℕ → ℕ → List ℕ
@@ -43,9 +48,13 @@ flowLines T sizes rate f zero = []
 flowLines T sizes rate f (suc k) = flowLine T sizes rate f ++ flowLines T sizes rate (f + 1) k
 
 -- the titles, if the dress has them, and a line for each flow
-abbrev pub rowsText : Table → List ℕ → Dress → List ℕ
-rowsText T sizes dress =
+abbrev pub titledText : Table → List ℕ → Dress → List ℕ
+titledText T sizes dress =
     cond (dress .titled) (titlesText sizes (ltb 0 (dress .rate))) [] ++ flowLines T sizes (dress .rate) 0 (T .n)
+
+-- .. behind the line of the table's overhead
+abbrev pub rowsText : Table → List ℕ → Dress → List ℕ
+rowsText T sizes dress = overheadText (T .overhead) ++ titledText T sizes dress
 
 -- .. with the dress's byte in place of each space
 abbrev pub dressedText : Table → List ℕ → Dress → List ℕ
@@ -80,10 +89,21 @@ rowRoom = 30 * (6 + mostSizes)
 abbrev pub flowsRoom : ℕ
 flowsRoom = mostFlows * rowRoom
 
-abbrev pub figuresRoom : ℕ
-figuresRoom = rowRoom + flowsRoom
+abbrev pub titledRoom : ℕ
+titledRoom = rowRoom + flowsRoom
 
--- what is written into a buffer of this many bytes: nothing, where it has fewer than 110,700, which is room for any run's text
+-- the overhead's line: its word and the space, 20 for the number, and the newline; and all of these
+abbrev pub overheadRoom : ℕ
+overheadRoom = 9 + 20 + 1
+
+abbrev pub figuresRoom : ℕ
+figuresRoom = overheadRoom + titledRoom
+
+-- what is written of an overhead into a buffer of this many bytes: nothing, where it has fewer than 30
+unfoldable pub overheadWithin : ℕ → ℕ → List ℕ
+overheadWithin overhead room = cond (eqb overhead 0) [] (aroundWithin (spelt "overhead ") overhead (10 ∷ []) room)
+
+-- .. of a run: nothing, where it has fewer than 110,700, which is room for any run's text
 unfoldable pub runTextWithin : List ℕ → ℕ → List ℕ
 runTextWithin b room = cond (ltb room runRoom) [] (runText b)
 
@@ -91,7 +111,7 @@ runTextWithin b room = cond (ltb room runRoom) [] (runText b)
 unfoldable pub waitingTextWithin : List ℕ → ℕ → List ℕ
 waitingTextWithin b room = cond (ltb room waitingRoom) [] (waitingText b)
 
--- .. nothing, where it has fewer than 11,220, or more than 16 numbers of bytes are asked
+-- .. nothing, where it has fewer than 11,250, or more than 16 numbers of bytes are asked
 unfoldable pub figuresTextWithin : List ℕ → List ℕ → Dress → ℕ → List ℕ
 figuresTextWithin b sizes dress room =
     cond (ltb room figuresRoom) [] (cond (ltb mostSizes (length sizes)) [] (figuresText b sizes dress))

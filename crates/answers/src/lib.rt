@@ -10,8 +10,9 @@ ghost use Rattle.io.specs.Counts.{Counts};
 ghost use Rattle.drr.specs.Facts.{SoundState};
 ghost use Rattle.drr.specs.Answers.{numberOf};
 ghost use Rattle.text.specs.Text.{refusalWithin, overlaid};
-ghost use Rattle.answers.specs.Printed.{mostSizes, rowRoom, flowsRoom, figuresRoom, flowLine, flowLines, rowsText, dressedText};
-ghost use Rattle.answers.specs.Printed.{runTextWithin, waitingTextWithin, figuresTextWithin};
+ghost use Rattle.answers.specs.Printed.{mostSizes, rowRoom, flowsRoom, titledRoom, figuresRoom};
+ghost use Rattle.answers.specs.Printed.{flowLine, flowLines, titledText, rowsText, dressedText};
+ghost use Rattle.answers.specs.Printed.{overheadWithin, runTextWithin, waitingTextWithin, figuresTextWithin};
 
 // Bytes that are room for any run's text, for the same with the bytes waiting, and for the figures of any
 // table.
@@ -19,7 +20,7 @@ pub const RUN_ROOM: usize = 110700;
 
 pub const WAITING_ROOM: usize = 132204;
 
-pub const FIGURES_ROOM: usize = 11220;
+pub const FIGURES_ROOM: usize = 11250;
 // How many numbers of bytes may be asked.
 pub const MOST_SIZES: usize = 16;
 
@@ -31,6 +32,18 @@ pub fn refusal_line(why: Refusal, place: usize, buf: &mut [u8]) -> usize
 {
     let number = widths::u64_of_u32(drr::refusal_number(why));
     text::refusal_text(number, widths::u64_of_usize(place), buf)
+}
+
+// The line of an overhead at the start of a lent buffer, and how many bytes it has; nothing, and 0, where
+// the overhead is 0 or the buffer has fewer than 30 bytes.
+pub fn overhead_line(overhead: u32, buf: &mut [u8]) -> usize
+    ensures { λ r. ⌜ (let text = overheadWithin overhead (length (now (buf .entry))) in
+        (r ≡ length text) × (now (buf .exit) ≡ overlaid text (now (buf .entry)))) ⌝ }
+{
+    if overhead == 0 {
+        return 0;
+    }
+    text::around_text(b"overhead ", widths::u64_of_u32(overhead), b"\n", buf)
 }
 
 // What `drrrun` prints of a file's bytes, at the start of a lent buffer, and how many bytes it has;
@@ -115,9 +128,9 @@ fn put_flows(s: State, sizes: &[u32], rate: u64, buf: &mut [u8]) -> usize
 }
 
 // The titles, if they are asked for, and a line for each flow.
-fn put_rows(s: State, sizes: &[u32], dress: Dress, buf: &mut [u8]) -> usize
-    requires { ⌜ SoundState s × (length (now sizes) ≤ mostSizes) × (figuresRoom ≤ length (now buf)) ⌝ }
-    ensures { λ r. ⌜ (let text = rowsText (s .table) (now (sizes .entry)) dress in
+fn put_titled(s: State, sizes: &[u32], dress: Dress, buf: &mut [u8]) -> usize
+    requires { ⌜ SoundState s × (length (now sizes) ≤ mostSizes) × (titledRoom ≤ length (now buf)) ⌝ }
+    ensures { λ r. ⌜ (let text = titledText (s .table) (now (sizes .entry)) dress in
         (r ≡ length text) × (now (buf .exit) ≡ overlaid text (now (buf .entry)))) ⌝ }
 {
     let rate = dress.rate;
@@ -129,7 +142,18 @@ fn put_rows(s: State, sizes: &[u32], dress: Dress, buf: &mut [u8]) -> usize
     put_flows(s, sizes, rate, buf)
 }
 
-// The same, dressed whole.
+// The same behind the line of the table's overhead.
+fn put_rows(s: State, sizes: &[u32], dress: Dress, buf: &mut [u8]) -> usize
+    requires { ⌜ SoundState s × (length (now sizes) ≤ mostSizes) × (figuresRoom ≤ length (now buf)) ⌝ }
+    ensures { λ r. ⌜ (let text = rowsText (s .table) (now (sizes .entry)) dress in
+        (r ≡ length text) × (now (buf .exit) ≡ overlaid text (now (buf .entry)))) ⌝ }
+{
+    let table = s.table;
+    let at = overhead_line(table.overhead, buf);
+    at + put_titled(s, sizes, dress, &mut buf[at..])
+}
+
+// .. dressed whole.
 fn put_dressed(s: State, sizes: &[u32], dress: Dress, buf: &mut [u8]) -> usize
     requires { ⌜ SoundState s × (length (now sizes) ≤ mostSizes) × (figuresRoom ≤ length (now buf)) ⌝ }
     ensures { λ r. ⌜ (let text = dressedText (s .table) (now (sizes .entry)) dress in
@@ -142,7 +166,7 @@ fn put_dressed(s: State, sizes: &[u32], dress: Dress, buf: &mut [u8]) -> usize
 }
 
 // What `drrfigures` prints of a file's bytes and these numbers of bytes in a dress, at the start of a
-// lent buffer, and how many bytes it has; nothing, and 0, where the buffer has fewer than 11,220 bytes or
+// lent buffer, and how many bytes it has; nothing, and 0, where the buffer has fewer than 11,250 bytes or
 // the numbers are more than 16.
 pub fn figures_text(file: &[u8], sizes: &[u32], dress: Dress, buf: &mut [u8]) -> usize
     ensures { λ r. ⌜ r ≡ length

@@ -14,55 +14,61 @@ use denote.Laws.{Is}
 use Rattle.drr.specs.declared.Table.{Table}
 use Rattle.drr.specs.declared.State.{State}
 use Rattle.drr.specs.declared.FlowRecord.{FlowRecord}
+use Rattle.drr.specs.declared.Terms.{Terms}
 use Rattle.drr.specs.Limits.{mostFlows}
-use Rattle.drr.specs.State.{Line, quantumOf, maximumOf, sumOf, rowOf, bytesOf, lineIn, stateFrom, freshLine, freshState, emptyTable}
+use Rattle.drr.specs.State.{Line, quantumOf, maximumCharge, sumOf, rowOf, bytesOf, lineIn, stateFrom, freshLine, freshState, emptyTable}
 use Rattle.drr.specs.Sound.{soundb}
 use Rattle.drr.specs.Facts.{Ranged, Shaped, Sound, SoundState, ShapedState, SameTable, SameMeaning}
-use Rattle.drr.specs.Answers.{Answer, fine, idle, outcome, reply}
+use Rattle.drr.specs.Answers.{Answer, fine, refusedAt, idle, visitsIn, outcome, reply}
 use Rattle.drr.specs.Arrival.{arrivalReply}
 use Rattle.drr.specs.Pick.{Picks}
 use Rattle.drr.specs.Computed.{pickOf, pickReply}
-use Rattle.drr.specs.Setup.{tableFor, setupReply}
+use Rattle.drr.specs.Setup.{termsOf, tableFor, setupAnswer, setupReply}
+use Rattle.drr.specs.Before as before
 use Rattle.drr.specs.Figures.{allQuanta, lag, Least, owed, wait}
 use Rattle.drr.specs.Floor.{Call, replyTo, afterCalls, answersTo, lineAfter, bytesSent, flowSent, WaitsAtPicks, Floor}
 use Rattle.drr.specs.Paper.{Memory, Point, Reading, Serves, pointIn, memoryIn, startPoint, startMemory}
 use Rattle.drr.specs.Account.{justFlow, bytesAccepted, bytesGiven, bytesWaitingIn, Account, AccountOfAll, FreshAccount, FreshAccountOfAll}
 use Rattle.runfile.specs.declared.turns.Tally.{Tally}
-use Rattle.runfile.specs.File.{eventCount, flowsIn, eventsIn, fileAnswer, fileTable, runAnswer}
+use Rattle.runfile.specs.File.{eventCount, overheadIn, flowsIn, eventsIn, fileAnswer, fileTable, runAnswer}
 use Rattle.runfile.specs.Run.{Act, free, outcomeOf, Timed, bookedIn, callIn, callsIn, tableIn, runCalls}
 use Rattle.runfile.specs.Listing.{tally, tallyAfter, endLine, linesOf, ends, ticksOf, lastOf, acceptedTo, sentTo}
+use Rattle.runfile.specs.Before as run-before
 use Rattle.runfile.specs.Listing.{runListing, runWaiting, filled, filledLines, filledBeside}
 use Rattle.figures.specs.Answers.{figureIs, waitingAnswer}
 use Rattle.figures.specs.Time.{waitTime}
-use Rattle.figures.specs.Vectors.{Every, marked}
+use Rattle.figures.specs.Vectors.{Every, marked, raised}
 use Rattle.io.specs.Digits.{Fewest}
 use Rattle.text.specs.Text.{listingText, besideText, places}
 use Rattle.textform.specs.declared.Want.{Want}
 use Rattle.textform.specs.declared.Making.the-variants.{File, Fault}
-use Rattle.textform.specs.Made.{Draft, made, fault, bytesIn, madeBytes, makingIn, makingOf, mostMade, madeOf}
+use Rattle.textform.specs.Made.{Draft, overheadSaid, made, fault, bytesIn, madeBytes, makingIn, makingOf, mostMade, madeOf}
 use Rattle.textform.specs.Made as textform
-use Rattle.textform.specs.Shown.{textOf, shownText, Bytes, FlowsThenEvents}
+use Rattle.textform.specs.Shown.{textOf, shownText, plainly, Bytes, FlowsThenEvents}
 use Rattle.drr.proofs.State as state
 use Rattle.drr.proofs.Facts.{sound-is, of-sound}
 use Rattle.drr.proofs.Shape.{shaped}
 use Rattle.drr.proofs.Meaning.{one-table, one-state}
 use Rattle.drr.proofs.One.{pick-is, pick-only}
-use Rattle.drr.proofs.Tables.{no-flows-ranged}
+use Rattle.drr.proofs.Before.{setup-same, sound-same, pick-same, lag-same, wait-same, owed-same}
+use Rattle.drr.proofs.Tables.{no-flows-ranged, sound-ranged}
 use Rattle.drr.proofs.Steps.{sum-most}
 use Rattle.drr.proofs.Keeps.{arrival-keeps, arrival-refused, pick-keeps}
-use Rattle.drr.proofs.Calls.{fresh-state-sound, setup-keeps, setup-refused, call-sound, call-hands-back, pick-fine, idle-still}
+use Rattle.drr.proofs.Calls.{fresh-state-sound, setup-keeps, setup-refused, setup-over, call-sound, call-hands-back, pick-fine}
+use Rattle.drr.proofs.Calls.{pick-visits, idle-still}
 use Rattle.drr.proofs.Figures as figures
 use Rattle.drr.proofs.Demand3 as demand3
 use Rattle.drr.proofs.Account as account
 use Rattle.drr.proofs.Paper.{algorithm-runs, algorithm-runs-only, algorithm-starts}
 use Rattle.figures.proofs.Laws.{time-least}
 use Rattle.figures.proofs.Claims as figure-claims
-use Rattle.figures.proofs.Vectors.{p1-to-p12}
+use Rattle.figures.proofs.Vectors.{p1-to-p12, with-20}
+use Rattle.runfile.proofs.Before.{answer-as-before, listing-as-before, waiting-as-before}
 use Rattle.runfile.proofs.Claims as run-claims
 use Rattle.runfile.proofs.Counts.{act-is-call}
 use Rattle.text.proofs.Texts.{places-fewest}
 use Rattle.answers.proofs.Shown as printed
-use Rattle.textform.proofs.Drafts.{made-good, made-reads, made-table, made-no-gaps, made-most, made-taken}
+use Rattle.textform.proofs.Drafts.{made-reads, made-table, made-no-gaps, made-most, made-taken}
 use Rattle.textform.specs.Words.{faultText, faultWithin}
 use Rattle.textform.proofs.Faults.{fits}
 use Rattle.textform.proofs.Sizes as sizes
@@ -90,8 +96,16 @@ arrival-hands-back s f length = call-hands-back s _ _ (arrival-refused (s .table
 pub pick-hands-back : (s : State) → (pickReply s .answer .refusal ≡ 0 → ⊥) → pickReply s .state ≡ s
 pick-hands-back s = call-hands-back s _ _ (λ some. absurd (some (pick-fine (s .table) (lineIn (s .line)))))
 
-pub setup-gives-empty : (xs : List FlowRecord) → (setupReply xs .answer .refusal ≡ 0 → ⊥) → setupReply xs .state ≡ emptyTable
+pub setup-gives-empty : (xs : List FlowRecord) (terms : Terms) → (setupReply xs terms .answer .refusal ≡ 0 → ⊥) →
+    setupReply xs terms .state ≡ emptyTable
 setup-gives-empty = setup-refused
+
+-- E2: an overhead above 64 is refused by 10 before the list is looked at; in a sound state it is in range, and 0 where there is no flow
+pub overhead-first : (xs : List FlowRecord) (terms : Terms) → 64 < terms .overhead → setupReply xs terms .answer ≡ refusedAt 10 0
+overhead-first = setup-over
+
+pub overhead-in-range : (s : State) → SoundState s → (s .table .overhead ≤ 64) × (s .table .n ≡ 0 → s .table .overhead ≡ 0)
+overhead-in-range s ok = let r = sound-ranged ok in (r .overhead-in, r .no-overhead)
 
 -- a refused run leaves the lent list as it came, and one with two lists leaves both
 pub run-leaves : (b out : List ℕ) → (runAnswer b (length out) .refusal ≡ 0 → ⊥) → filled b out ≡ out
@@ -107,6 +121,10 @@ pick-has-one = pick-is
 
 pub pick-has-no-other : (T : Table) (l : Line) → Sound T l → (a : Answer) (t : Line) → Picks T l a t → outcome a t ≡ pickOf T l
 pick-has-no-other = pick-only
+
+-- the visits that a pick opens: at most sixteen times 9,280, the most that a packet is charged
+pub visits-at-most : (T : Table) (l : Line) → Sound T l → visitsIn (pickOf T l .answer) ≤ 148480
+visits-at-most = pick-visits
 
 -- "Idle may close a visit; a second idle pick changes nothing."
 pub idle-twice : (s : State) → ShapedState s → pickReply s .answer ≡ idle →
@@ -127,25 +145,25 @@ algorithm-only = algorithm-runs-only
 pub algorithm-fresh : (T : Table) → (pointIn (freshState T) ≡ startPoint) × (memoryIn (freshState T) ≡ startMemory)
 algorithm-fresh = algorithm-starts
 
--- ==== DEMAND 3: the floor, `Floor` in crates/drr/specs/Floor.antt. Its picks are `pickReply`'s, and by `pick-meets` (Meets.antt) so
--- are the code's: what holds of the one holds of the other.
+-- ==== DEMAND 3: the floor, `Floor` in crates/drr/specs/Floor.antt, in charges, the bytes on the line. Its picks are `pickReply`'s, and by
+-- `pick-meets` (Meets.antt) so are the code's: what holds of the one holds of the other.
 pub the-floor : Floor
 the-floor = demand3.demand-3
 
 -- beside it, by the same laws of a stretch, between the waiting flow i and any other flow j: document 004's equation 19 without its
--- fractions, with one byte off each maximum
+-- fractions, with one byte off each maximum charge
 pub between-flows : (s : State) → SoundState s → (before stretch : List Call) (i j : ℕ) → i < s .table .n → j < s .table .n → j ≢ i →
     WaitsAtPicks (afterCalls s before) stretch i →
     quantumOf (s .table) i * flowSent (afterCalls s before) stretch j
-    ≤ quantumOf (s .table) j * (flowSent (afterCalls s before) stretch i + (quantumOf (s .table) i + (maximumOf (s .table) i - 1)))
-    + quantumOf (s .table) i * (maximumOf (s .table) j - 1)
+    ≤ quantumOf (s .table) j * (flowSent (afterCalls s before) stretch i + (quantumOf (s .table) i + (maximumCharge (s .table) i - 1)))
+    + quantumOf (s .table) i * (maximumCharge (s .table) j - 1)
 between-flows = demand3.pairs
 
 -- it begins at a sound state: what is sound, and stays so
 pub empty-sound : SoundState emptyTable
 empty-sound = fresh-state-sound no-flows-ranged
 
-pub setup-sound : (xs : List FlowRecord) → SoundState (setupReply xs .state)
+pub setup-sound : (xs : List FlowRecord) (terms : Terms) → SoundState (setupReply xs terms .state)
 setup-sound = setup-keeps
 
 pub arrival-sound : (s : State) (f length : ℕ) → SoundState s → SoundState (arrivalReply s f length .state)
@@ -170,8 +188,8 @@ pub the-account-of-all : AccountOfAll
 the-account-of-all = account.account-of-all
 
 -- what waits is what the public question answers (`waiting-bytes-meets`, in Meets.antt): from fresh, the accepted less the sent
-pub waiting-is-told : (xs : List FlowRecord) → setupReply xs .answer .refusal ≡ 0 → (cs : List Call) (i : ℕ) →
-    let s = setupReply xs .state in
+pub waiting-is-told : (xs : List FlowRecord) (terms : Terms) → setupReply xs terms .answer .refusal ≡ 0 → (cs : List Call) (i : ℕ) →
+    let s = setupReply xs terms .state in
     i < s .table .n →
     waitingAnswer (afterCalls s cs) i
     ≡ figureIs (bytesAccepted (justFlow i) cs (answersTo s cs) - bytesGiven (justFlow i) (answersTo s cs))
@@ -215,9 +233,34 @@ wait-time-is-least = time-least
 pub one-flow : (T : Table) → T .n ≡ 1 → 0 < quantumOf T 0 → (lag T 0 ≡ 0) × ((S : ℕ) → owed T 0 S ≡ S)
 one-flow T one some = (figures.one-flow-lag T one some, figures.one-flow-owed T one some)
 
--- P1 to P12: the table `marked`, in crates/figures/specs/Vectors.antt, and that every entry of it holds
-pub document-table : Every marked
+-- P1 to P12: the table `marked`, in crates/figures/specs/Vectors.antt, and that every entry of it holds with an overhead of 0; and
+-- with one of 20 every entry of `raised`
+pub document-table : Every (termsOf 0) marked
 document-table = p1-to-p12
+
+pub overhead-table : Every (termsOf 20) raised
+overhead-table = with-20
+
+-- ==== E2, WITH AN OVERHEAD OF 0, as without one: setup's answer, which lines are sound, their picks, and the figures; and of a file whose
+-- last header field is 0 the run's answer, its listing and the numbers beside it. The definitions without an overhead stand in Before.antt,
+-- in the specs of drr and of runfile
+pub setup-as-before : (xs : List FlowRecord) → setupAnswer xs (termsOf 0) ≡ before.setupAnswer xs
+setup-as-before = setup-same
+
+pub sound-as-before : (T : Table) → T .overhead ≡ 0 → (l : Line) → soundb T l ≡ before.soundb T l
+sound-as-before = sound-same
+
+pub picks-as-before : (T : Table) → T .overhead ≡ 0 → (l : Line) → pickOf T l ≡ before.pickOf T l
+picks-as-before = pick-same
+
+pub figures-as-before : (T : Table) → T .overhead ≡ 0 → (i : ℕ) →
+    (lag T i ≡ before.lag T i) × (wait T i ≡ before.wait T i) × ((S : ℕ) → owed T i S ≡ before.owed T i S)
+figures-as-before T none i = (lag-same T none i, wait-same T none i, owed-same T none i)
+
+pub runs-as-before : (b : List ℕ) → overheadIn b ≡ 0 →
+    ((room : ℕ) → runAnswer b room ≡ run-before.runAnswer b room)
+    × (runListing b ≡ run-before.runListing b) × (runWaiting b ≡ run-before.runWaiting b)
+runs-as-before b none = (answer-as-before b none, listing-as-before b none, waiting-as-before b none)
 
 -- ==== DEMANDS 1 TO 3, the run: each call of it is the public one on the state made of its line
 pub run-calls-public : (T : Table) (l : Line) → Sound T l → (k : Act) →
@@ -316,28 +359,26 @@ fault-fits = fits
 -- a text without a fault, and its records d
 module _ (text : List ℕ) (d : Draft) (e : textform.outcomeOf text ≡ made d) where
   -- "what is written is read back as the same table and events": the file has no refusal of a run file
-  pub made-read-back : (fileAnswer (madeBytes text) ≡ fine) × (flowsIn (madeBytes text) ≡ d .flows)
-      × (eventsIn (madeBytes text) ≡ d .events) × (fileTable (madeBytes text) ≡ tableFor (d .flows))
-  made-read-back = let r = made-reads text d e in (r .0, r .1, r .2, made-table text d e)
+  pub made-read-back : (fileAnswer (madeBytes text) ≡ fine) × (overheadIn (madeBytes text) ≡ overheadSaid (d .overheads))
+      × (flowsIn (madeBytes text) ≡ d .flows) × (eventsIn (madeBytes text) ≡ d .events)
+      × (fileTable (madeBytes text) ≡ tableFor (d .flows) (termsOf (overheadSaid (d .overheads))))
+  made-read-back = let r = made-reads text d e in (r .0, r .1, r .2, r .3, made-table text d e)
 
   -- the file has no gaps, and at most 8,340 bytes
   pub made-without-gaps : FlowsThenEvents (madeBytes text) × (length (madeBytes text) ≤ mostMade)
   made-without-gaps = (made-no-gaps text d e, made-most text)
 
-  -- shown, it has a line for each record, which say the same records again
-  pub made-shown : (shownText (madeBytes text) ≡ textOf (d .flows) (d .events))
-      × (textform.outcomeOf (shownText (madeBytes text)) ≡ made d)
-  made-shown =
-      let g = made-good text d e in
-      let is = round.made-shown text d e in
-      (is, ap textform.outcomeOf is ∙ round.text-read d (g .0) (g .1))
+  -- shown, it has a line for each record, which say the same records again, but for an overhead of 0, which is left out
+  pub made-shown : (shownText (madeBytes text) ≡ textOf (overheadSaid (d .overheads)) (d .flows) (d .events))
+      × (textform.outcomeOf (shownText (madeBytes text)) ≡ made (plainly d))
+  made-shown = (round.made-shown text d e, round.made-shown-read text d e)
 
 -- any bytes that are a run file
 module _ (b : List ℕ) (bytes : Bytes b) (ok : fileAnswer b .refusal ≡ 0) where
-  -- shown and made again, with gaps or without, it keeps its flows and events
-  pub shown-kept : (fileAnswer (madeBytes (shownText b)) ≡ fine) × (flowsIn (madeBytes (shownText b)) ≡ flowsIn b)
-      × (eventsIn (madeBytes (shownText b)) ≡ eventsIn b)
-  shown-kept = made-reads (shownText b) _ (round.shown-read b bytes ok)
+  -- shown and made again, with gaps or without, it keeps its overhead, flows and events
+  pub shown-kept : (fileAnswer (madeBytes (shownText b)) ≡ fine) × (overheadIn (madeBytes (shownText b)) ≡ overheadIn b)
+      × (flowsIn (madeBytes (shownText b)) ≡ flowsIn b) × (eventsIn (madeBytes (shownText b)) ≡ eventsIn b)
+  shown-kept = round.shown-keeps b bytes ok
 
   -- "a run file without gaps, shown and made again, is the same bytes", where its flows stand before its events
   pub shown-made-again : FlowsThenEvents b → madeBytes (shownText b) ≡ b

@@ -1,6 +1,6 @@
 -- Each public function meets its contract: its `statement` is that it returns from every call that meets what it asks, and then
--- meets the `ensures` in its source. Only `pick-in` and `book`, which a run calls on a line that it keeps sound, and `le2` and `le4`,
--- which read inside a table that is tested, ask anything.
+-- meets the `ensures` in its source. Only `pick-in`, `book` and `charge-of`, which a run calls on a line that it keeps sound, and `le2`
+-- and `le4`, which read inside a table that is tested, ask anything.
 use Rattle.drr.proofs.refusal_number.Statement as refusal-number
 use Rattle.drr.proofs.refusal_number.Met as refusal-number-met
 use Rattle.drr.proofs.common_of.Statement as common-of
@@ -35,6 +35,8 @@ use Rattle.engine.proofs.sound_in.Statement as sound-in
 use Rattle.engine.proofs.sound_in.Met as sound-in-met
 use Rattle.engine.proofs.pick_in.Statement as pick-in
 use Rattle.engine.proofs.pick_in.Met as pick-in-met
+use Rattle.engine.proofs.charge_of.Statement as charge-of
+use Rattle.engine.proofs.charge_of.Met as charge-of-met
 use Rattle.engine.proofs.book.Statement as book
 use Rattle.engine.proofs.book.Met as book-met
 use Rattle.figures.proofs.owed.Statement as owed
@@ -83,6 +85,8 @@ use Rattle.text.proofs.same.Statement as same
 use Rattle.text.proofs.same.Met as same-met
 use Rattle.text.proofs.around_text.Statement as around-text
 use Rattle.text.proofs.around_text.Met as around-text-met
+use Rattle.answers.proofs.overhead_line.Statement as overhead-line
+use Rattle.answers.proofs.overhead_line.Met as overhead-line-met
 use Rattle.answers.proofs.refusal_line.Statement as refusal-line
 use Rattle.answers.proofs.refusal_line.Met as refusal-line-met
 use Rattle.answers.proofs.run_text.Statement as run-text
@@ -170,6 +174,9 @@ sound-in-meets = sound-in-met.met
 pub pick-in-meets : {M : Type 1} → pick-in.statement M
 pick-in-meets = pick-in-met.met
 
+pub charge-of-meets : {M : Type 1} → charge-of.statement M
+charge-of-meets = charge-of-met.met
+
 pub book-meets : {M : Type 1} → book.statement M
 book-meets = book-met.met
 
@@ -247,6 +254,9 @@ pub around-text-meets : {M : Type 1} → around-text.statement M
 around-text-meets = around-text-met.met
 
 -- ---- what the programs print: any bytes, and any lent buffer
+pub overhead-line-meets : {M : Type 1} → overhead-line.statement M
+overhead-line-meets = overhead-line-met.met
+
 pub refusal-line-meets : {M : Type 1} → refusal-line.statement M
 refusal-line-meets = refusal-line-met.met
 

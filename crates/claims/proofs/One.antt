@@ -9,6 +9,7 @@ use Rattle.drr.specs.declared.Common.{Common}
 use Rattle.drr.specs.declared.Spot.{Spot}
 use Rattle.drr.specs.declared.State.{State}
 use Rattle.drr.specs.declared.FlowRecord.{FlowRecord}
+use Rattle.drr.specs.declared.Terms.{Terms}
 use Rattle.drr.specs.declared.Tabled.{Tabled}
 use Rattle.drr.specs.declared.Made.{Made}
 use Rattle.drr.specs.declared.Picked.{Picked}
@@ -49,6 +50,7 @@ use Rattle.scheduler.proofs.flows.fresh.Reads as of-fresh
 use Rattle.scheduler.proofs.sound_line.Reads as of-sound-line
 use Rattle.engine.proofs.sound_in.Reads as of-sound-in
 use Rattle.engine.proofs.pick_in.Reads as of-pick-in
+use Rattle.engine.proofs.charge_of.Reads as of-charge
 use Rattle.engine.proofs.book.Reads as of-book
 use Rattle.figures.proofs.owed.Reads as of-owed
 use Rattle.figures.proofs.wait.Reads as of-wait
@@ -73,6 +75,7 @@ use Rattle.text.proofs.part_by.Reads as of-part-by
 use Rattle.text.proofs.word_of.Reads as of-word-of
 use Rattle.text.proofs.same.Reads as of-same
 use Rattle.text.proofs.around_text.Reads as of-around-text
+use Rattle.answers.proofs.overhead_line.Reads as of-overhead-line
 use Rattle.answers.proofs.refusal_line.Reads as of-refusal-line
 use Rattle.answers.proofs.run_text.Reads as of-run-text
 use Rattle.answers.proofs.run_waiting_text.Reads as of-run-waiting-text
@@ -144,9 +147,10 @@ pub one-fresh : (κs : _) (a : _) (r t : State) (x y : _) → of-fresh.Post κs 
 one-fresh κs a r t x y p q = p ∙ sym (q)
 
 -- of `setup`, whose proof is a walk by hand and gives no `Post`: its `ensures`, written out
-pub one-setup : (xs : List FlowRecord) (r t : Made) →
-    reply (verdictPaper (r .answer)) (r .state) ≡ setupReply xs → reply (verdictPaper (t .answer)) (t .state) ≡ setupReply xs → r ≡ t
-one-setup xs = papers.one-made (setupReply xs)
+pub one-setup : (xs : List FlowRecord) (terms : Terms) (r t : Made) →
+    reply (verdictPaper (r .answer)) (r .state) ≡ setupReply xs terms → reply (verdictPaper (t .answer)) (t .state) ≡ setupReply xs terms →
+    r ≡ t
+one-setup xs terms = papers.one-made (setupReply xs terms)
 
 -- ---- the test of a line, and the steps beneath, which other crates call
 
@@ -169,6 +173,9 @@ one-pick-in κs a r t x y p q =
       ap (λ (z : Outcome). z .line .deficits) e,
       ap (λ (z : Outcome). z .line .rows) e,
     )
+
+pub one-charge-of : (κs : _) (a : _) (r t : ℕ) (x y : _) → of-charge.Post κs a r x → of-charge.Post κs a t y → r ≡ t
+one-charge-of κs a r t x y p q = p ∙ sym q
 
 -- the result, and the counts, the sums and the rows at exit
 pub one-book : (κs : _) (a : _) (r t : ArrivalAnswer) (x y : _) → of-book.Post κs a r x → of-book.Post κs a t y →
@@ -274,6 +281,10 @@ pub one-around-text : (κs : _) (a : _) (r t : ℕ) (x y : _) → of-around-text
 one-around-text κs a r t x y p q = (p .0 ∙ sym (q .0), p .1 ∙ sym (q .1))
 
 -- ---- what the programs print
+
+pub one-overhead-line : (κs : _) (a : _) (r t : ℕ) (x y : _) → of-overhead-line.Post κs a r x → of-overhead-line.Post κs a t y →
+    (r ≡ t) × (x .1 .0 .now ≡ y .1 .0 .now)
+one-overhead-line κs a r t x y p q = (p .0 ∙ sym (q .0), p .1 ∙ sym (q .1))
 
 pub one-refusal-line : (κs : _) (a : _) (r t : ℕ) (x y : _) → of-refusal-line.Post κs a r x → of-refusal-line.Post κs a t y →
     (r ≡ t) × (x .1 .1 .0 .now ≡ y .1 .1 .0 .now)

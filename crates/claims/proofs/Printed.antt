@@ -1,14 +1,15 @@
 -- What `run_text`, `run_waiting_text` and `figures_text` give for document 01's run in full, by the definitions that they meet, as
--- theorems about its 92 bytes; and its text form, as theorems about the text.
+-- theorems about its 92 bytes, also with an overhead; and its text form, as theorems about the text.
 use mathlib.Core.Path.{_≡_, refl, sym, ap, _∙_}
 use mathlib.Core.Bool.{Bool, true, false, cond}
 use mathlib.Core.List.{List, [], _∷_, _++_}
 use Prim.Native.Nat.{ℕ, _+_, _*_, _-_, _/_, _<_}
 use lib.Dec.{eqb, lit<}
+use lib.ListN.{set}
 use Rattle.drr.specs.declared.Table.{Table}
 use Rattle.drr.specs.State.{quantumOf, maximumOf}
 use Rattle.drr.specs.Facts.{Ranged}
-use Rattle.drr.specs.Setup.{tableFor, setupAnswer, setupTable}
+use Rattle.drr.specs.Setup.{termsOf, tableFor, setupAnswer, setupTable}
 use Rattle.drr.specs.Figures.{allQuanta, lag, owed, wait}
 use Rattle.drr.specs.Arrival.{arrivalOf}
 use Rattle.drr.specs.Pick.{firstOf}
@@ -25,7 +26,7 @@ use Rattle.figures.specs.Needs.{Known}
 use Rattle.figures.proofs.Laws.{time-from}
 use Rattle.figures.proofs.Vectors.{waits, owes}
 use Rattle.answers.specs.declared.Dress.{Dress}
-use Rattle.answers.specs.Printed.{runText, waitingText, answerText, flowFigures, flowLine, flowLines, plain, figuresText}
+use Rattle.answers.specs.Printed.{runText, waitingText, answerText, overheadText, flowFigures, flowLine, flowLines, plain, figuresText}
 use Rattle.text.specs.Spelt.{spelt}
 use Rattle.textform.specs.declared.Want.the-variants as want
 use Rattle.textform.specs.declared.Making.the-variants.{Fault}
@@ -103,15 +104,8 @@ workedFigures =
     spelt "1 300 800 1410000 4701 1325 23825 248825\n" ++
     spelt "2 400 600 1440000 3601 2134 32134 332134\n"
 
-abbrev T : Table
-T = tableFor (flowsIn worked)
-
-ranged : Ranged T
-unfolding setupAnswer
-ranged = made-ranged (flowsIn worked) refl
-
--- a figure of it, by what division gives
-module _ (i : ℕ) (low : i < T .n) where
+-- a figure of a table, by what division gives
+module _ (T : Table) (ranged : Ranged T) (i : ℕ) (low : i < T .n) where
   abbrev byWait : ℕ
   byWait = lag T i / quantumOf T i + 1
 
@@ -125,22 +119,70 @@ module _ (i : ℕ) (low : i < T .n) where
       let o : (S : ℕ) → owed T i S ≡ byOwed S = λ S. owes ranged i low S refl in
       λ j. i ∷ quantumOf T i ∷ maximumOf T i ∷ lag T i ∷ w j ∷ o 10000 j ∷ o 100000 j ∷ o 1000000 j ∷ []
 
+abbrev T₀ : Table
+T₀ = tableFor (flowsIn worked) (termsOf 0)
+
+ranged : Ranged T₀
+unfolding setupAnswer
+ranged = made-ranged (flowsIn worked) (termsOf 0) refl
+
 pub worked-figures : figuresText worked workedSizes plain ≡ workedFigures
 unfolding figuresText flowsReply headerAnswer setupAnswer setupTable decimal places
 worked-figures =
     λ j. parted 32
-    (numbersText (line-is 0 (lit< tt) j) ++ (numbersText (line-is 1 (lit< tt) j) ++ (numbersText (line-is 2 (lit< tt) j) ++ [])))
+    (numbersText (line-is T₀ ranged 0 (lit< tt) j) ++ (numbersText (line-is T₀ ranged 1 (lit< tt) j)
+    ++ (numbersText (line-is T₀ ranged 2 (lit< tt) j) ++ [])))
 
--- ---- without options the fields are parted by spaces: a line of numbers for each flow, and nothing else
+-- ---- the same file with an overhead of 20: byte 16 alone differs. By hand from the events: flow 2's 420 does not fit its first 400
+abbrev pub raised : List ℕ
+raised = set worked 16 20
+
+abbrev pub raisedText : List ℕ
+raisedText =
+    spelt "S 0 0 200 280 1\n" ++
+    spelt "D 100 2 700 3\n" ++
+    spelt "S 220 0 750 10 3\n" ++
+    spelt "S 990 1 500 80 1\n" ++
+    spelt "S 1510 2 400 380 1\n" ++
+    spelt "S 1930 1 250 110 1\n" ++
+    spelt "E 2200 5 1\n"
+
+pub overhead-printed : runText raised ≡ raisedText
+unfolding runText fileAnswer headerAnswer arrivalOf firstOf lookFor calls listing besideText lineText kinds decimal places
+overhead-printed = refl
+
+abbrev pub raisedFigures : List ℕ
+raisedFigures =
+    spelt "overhead 20\n" ++
+    spelt "0 500 800 1644000 3289 2797 40297 415297\n" ++
+    spelt "1 300 800 1440000 4801 1300 23800 248800\n" ++
+    spelt "2 400 600 1472000 3681 2107 32107 332107\n"
+
+abbrev T₂₀ : Table
+T₂₀ = tableFor (flowsIn raised) (termsOf 20)
+
+raised-ranged : Ranged T₂₀
+unfolding setupAnswer
+raised-ranged = made-ranged (flowsIn raised) (termsOf 20) refl
+
+pub overhead-figures : figuresText raised workedSizes plain ≡ raisedFigures
+unfolding figuresText flowsReply headerAnswer setupAnswer setupTable decimal places
+overhead-figures =
+    λ j. parted 32
+    (overheadText 20 ++ (numbersText (line-is T₂₀ raised-ranged 0 (lit< tt) j) ++ (numbersText (line-is T₂₀ raised-ranged 1 (lit< tt) j)
+    ++ (numbersText (line-is T₂₀ raised-ranged 2 (lit< tt) j) ++ []))))
+
+-- ---- without options the fields are parted by spaces: the overhead's line where it is not 0, a line of numbers for each flow, and
+-- nothing else
 pub plain-line : (T : Table) (sizes : List ℕ) (f : ℕ) → flowLine T sizes 0 f ≡ numbersText (flowFigures T sizes f)
 plain-line T sizes f = refl
 
 pub plain-figures : (b sizes : List ℕ) → let T = flowsReply b .state .table in
-    figuresText b sizes plain ≡ answerText (flowsReply b .answer) (flowLines T sizes 0 0 (T .n))
+    figuresText b sizes plain ≡ answerText (flowsReply b .answer) (overheadText (T .overhead) ++ flowLines T sizes 0 0 (T .n))
 unfolding figuresText
 plain-figures b sizes =
     let T = flowsReply b .state .table in
-    ap (answerText (flowsReply b .answer)) (parted-space (flowLines T sizes 0 0 (T .n)))
+    ap (answerText (flowsReply b .answer)) (parted-space (overheadText (T .overhead) ++ flowLines T sizes 0 0 (T .n)))
 
 -- ---- with titles, commas, and the time at 10 million bits a second: `drrfigures --header --csv --rate 10000000 10000 1000000`
 abbrev pub csv : Dress
@@ -153,19 +195,20 @@ workedTable =
     spelt "1,300,800,1410000,4701,1325,248825,0.00376080\n" ++
     spelt "2,400,600,1440000,3601,2134,332134,0.00288080\n"
 
-module _ (i : ℕ) (low : i < T .n) where
+module _ (i : ℕ) (low : i < T₀ .n) where
   abbrev byTime : ℕ
-  byTime = (byWait i low * 8 * 100000000 - 1) / 10000000 + 1
+  byTime = (byWait T₀ ranged i low * 8 * 100000000 - 1) / 10000000 + 1
 
-  timed-is : timedText (flowFigures T (10000 ∷ 1000000 ∷ []) i) (waitTime T i 10000000)
-      ≡ timedText (i ∷ quantumOf T i ∷ maximumOf T i ∷ lag T i ∷ byWait i low ∷ byOwed i low 10000 ∷ byOwed i low 1000000 ∷ []) byTime
+  timed-is : timedText (flowFigures T₀ (10000 ∷ 1000000 ∷ []) i) (waitTime T₀ i 10000000)
+      ≡ timedText (i ∷ quantumOf T₀ i ∷ maximumOf T₀ i ∷ lag T₀ i ∷ byWait T₀ ranged i low
+      ∷ byOwed T₀ ranged i low 10000 ∷ byOwed T₀ ranged i low 1000000 ∷ []) byTime
   timed-is =
-      let w : wait T i ≡ byWait i low = waits ranged i low refl in
-      let o : (S : ℕ) → owed T i S ≡ byOwed i low S = λ S. owes ranged i low S refl in
-      let known : Known T i = record { ranged = ranged; below = low } in
-      let t : waitTime T i 10000000 ≡ byTime =
+      let w : wait T₀ i ≡ byWait T₀ ranged i low = waits ranged i low refl in
+      let o : (S : ℕ) → owed T₀ i S ≡ byOwed T₀ ranged i low S = λ S. owes ranged i low S refl in
+      let known : Known T₀ i = record { ranged = ranged; below = low } in
+      let t : waitTime T₀ i 10000000 ≡ byTime =
       sym (time-from known 10000000 (lit< tt)) ∙ ap (λ (x : ℕ). (x * 8 * 100000000 - 1) / 10000000 + 1) w in
-      λ j. timedText (i ∷ quantumOf T i ∷ maximumOf T i ∷ lag T i ∷ w j ∷ o 10000 j ∷ o 1000000 j ∷ []) (t j)
+      λ j. timedText (i ∷ quantumOf T₀ i ∷ maximumOf T₀ i ∷ lag T₀ i ∷ w j ∷ o 10000 j ∷ o 1000000 j ∷ []) (t j)
 
 pub worked-dressed : figuresText worked (10000 ∷ 1000000 ∷ []) csv ≡ workedTable
 unfolding figuresText flowsReply headerAnswer setupAnswer setupTable decimal places timeText
@@ -187,6 +230,15 @@ worked-shown = refl
 pub worked-made : madeBytes workedRecords ≡ worked
 unfolding madeBytes outcomeOf itemOf fileOf
 worked-made = refl
+
+-- .. and with the overhead, which is said first
+pub overhead-shown : shownText raised ≡ spelt "overhead 20\n" ++ workedRecords
+unfolding shownText textOf fileAnswer headerAnswer setupAnswer decimal places
+overhead-shown = refl
+
+pub overhead-made : madeBytes (spelt "overhead 20\n" ++ workedRecords) ≡ raised
+unfolding madeBytes outcomeOf itemOf fileOf
+overhead-made = refl
 
 -- .. and a text with a fault in its second line: what `make_file` answers, and the line that `fault_text` gives of that
 abbrev pub faulty : List ℕ

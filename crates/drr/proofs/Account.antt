@@ -169,13 +169,13 @@ fresh-none T i =
     ∙ ap (λ (c : ℕ). bytesOf (take c (rowOf (freshLine (T .n)) i))) (zero-at 16 i)
 
 pub fresh-account : FreshAccount
-fresh-account xs _ cs i i<n =
-    let s = setupReply xs .state in
-    omega (arith, account s (setup-keeps xs) cs i i<n, fresh-none (setupTable xs) i)
+fresh-account xs terms _ cs i i<n =
+    let s = setupReply xs terms .state in
+    omega (arith, account s (setup-keeps xs terms) cs i i<n, fresh-none (setupTable xs terms) i)
 
 pub fresh-account-of-all : FreshAccountOfAll
-fresh-account-of-all xs _ cs =
-    let s = setupReply xs .state in
+fresh-account-of-all xs terms _ cs =
+    let s = setupReply xs terms .state in
     let n = s .table .n in
-    let none = total-same n (λ i. bytesWaitingIn i s) (λ i. 0) (λ i _. fresh-none (setupTable xs) i) ∙ total-none n in
-    omega (arith, account-of-all s (setup-keeps xs) cs, none)
+    let none = total-same n (λ i. bytesWaitingIn i s) (λ i. 0) (λ i _. fresh-none (setupTable xs terms) i) ∙ total-none n in
+    omega (arith, account-of-all s (setup-keeps xs terms) cs, none)

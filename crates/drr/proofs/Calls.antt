@@ -3,26 +3,33 @@ use mathlib.Core.Path.{_≡_, refl, sym, ap, subst, subst⁻¹, _∙_}
 use mathlib.Core.Bool.{Bool, true, false}
 use mathlib.Core.List.{List}
 use mathlib.Core.Logic.{⊎-elim}
-use Prim.Native.Nat.{ℕ, zero, suc, _+_}
+use Prim.Native.Nat.{ℕ, zero, suc, _+_, _≤_, _<_}
 use native.Mathlib.Omega.{arith}
-use borrow.Author.Tests.{eqb-true}
+use borrow.Author.Tests.{eqb-true, lt-ltb}
 use lib.Dec.{leb, eqb}
 use Rattle.drr.specs.declared.Table.{Table}
 use Rattle.drr.specs.declared.State.{State}
 use Rattle.drr.specs.declared.FlowRecord.{FlowRecord}
+use Rattle.drr.specs.declared.Terms.{Terms}
 use Rattle.drr.specs.declared.Found.{Found}
 use Rattle.drr.specs.declared.Found.the-variants.{At, Nothing}
+use Rattle.drr.specs.Limits.{mostOverhead, mostCharges}
 use Rattle.drr.specs.State.{Line, deficitOf, oldestCharge, lineIn, stateFrom, freshLine, freshState, emptyTable}
 use Rattle.drr.specs.Sound.{soundState}
 use Rattle.drr.specs.Facts.{Ranged, Sound, SoundState, ShapedState}
-use Rattle.drr.specs.Answers.{Answer, idle, Outcome, Reply, reply, pickRefused, guarded}
-use Rattle.drr.specs.Pick.{next, openAt, closed, emptied, idles, starts}
+use Rattle.drr.specs.Answers.{Answer, refusedAt, idle, visitsIn, Outcome, Reply, reply, pickRefused, guarded}
+use Rattle.drr.specs.Pick.{next, openAt, closed, emptied, Looks, Picks}
+use Rattle.drr.specs.Pick.Looks.{idles, sends, passes}
+use Rattle.drr.specs.Pick.Picks.{goes-on, closes, starts}
 use Rattle.drr.specs.Computed.{serve, turn, lookFor, enough, carryOn, readyb, pickAt, pickOf, pickReply}
 use Rattle.drr.specs.Setup.{setupAnswer, setupTable, setupReply}
 use Rattle.drr.proofs.Bools.{by-test, dec}
 use Rattle.drr.proofs.Facts.{sound-is, of-sound}
 use Rattle.drr.proofs.Search.{first-empty}
-use Rattle.drr.proofs.One.{pick-only}
+use Rattle.drr.proofs.Steps.{visit-passes, on-ends}
+use Rattle.drr.proofs.Sums.{overFlows}
+use Rattle.drr.proofs.Visits.{sum-low, grows}
+use Rattle.drr.proofs.One.{pick-is, pick-only}
 use Rattle.drr.proofs.States.{state-back, line-back, guarded-sound, guarded-not}
 use Rattle.drr.proofs.Tables.{zero-at, fresh-sound, setup-ranged}
 use Rattle.drr.proofs.Keeps.{pick-keeps, idle-again}
@@ -34,14 +41,19 @@ whole-sound T l ok = subst⁻¹ (Sound T) (line-back T l) ok
 pub fresh-state-sound : {T : Table} → Ranged T → SoundState (freshState T)
 fresh-state-sound {T} r = whole-sound T (freshLine (T .n)) (fresh-sound r)
 
-pub setup-keeps : (xs : List FlowRecord) → SoundState (setupReply xs .state)
-setup-keeps xs = fresh-state-sound (setup-ranged xs)
+pub setup-keeps : (xs : List FlowRecord) (terms : Terms) → SoundState (setupReply xs terms .state)
+setup-keeps xs terms = fresh-state-sound (setup-ranged xs terms)
 
-pub setup-refused : (xs : List FlowRecord) → (setupReply xs .answer .refusal ≡ 0 → ⊥) → setupReply xs .state ≡ emptyTable
+pub setup-refused : (xs : List FlowRecord) (terms : Terms) → (setupReply xs terms .answer .refusal ≡ 0 → ⊥) →
+    setupReply xs terms .state ≡ emptyTable
 unfolding setupTable
-setup-refused xs some =
-    by-test (λ (T : Table). freshState T ≡ emptyTable) (eqb (setupAnswer xs .refusal) 0)
-    (λ e. absurd (some (eqb-true (setupAnswer xs .refusal) 0 e))) (λ _. refl)
+setup-refused xs terms some =
+    by-test (λ (T : Table). freshState T ≡ emptyTable) (eqb (setupAnswer xs terms .refusal) 0)
+    (λ e. absurd (some (eqb-true (setupAnswer xs terms .refusal) 0 e))) (λ _. refl)
+
+pub setup-over : (xs : List FlowRecord) (terms : Terms) → mostOverhead < terms .overhead → setupReply xs terms .answer ≡ refusedAt 10 0
+unfolding setupAnswer
+setup-over xs terms over = rw (lt-ltb mostOverhead (terms .overhead) over)
 
 -- ---- a call that gives the outcome o on the state's line
 module _ (s : State) (unsound : Answer) (o : Outcome) where
@@ -61,13 +73,14 @@ module _ (s : State) (unsound : Answer) (o : Outcome) where
 abbrev Fine : Outcome → Type 0
 Fine o = o .answer .refusal ≡ 0
 
-serve-fine : (b : Bool) (v : ℕ) (l : Line) (f : ℕ) (goto2 : Line → Outcome) → ((t : Line) → Fine (goto2 t)) → Fine (serve b v l f goto2)
-serve-fine true v l f goto2 h = refl
-serve-fine false v l f goto2 h = h (closed l)
+serve-fine : (T : Table) (b : Bool) (v : ℕ) (l : Line) (f : ℕ) (goto2 : Line → Outcome) → ((t : Line) → Fine (goto2 t)) →
+    Fine (serve T b v l f goto2)
+serve-fine T true v l f goto2 h = refl
+serve-fine T false v l f goto2 h = h (closed l)
 
 turn-fine : (T : Table) (v : ℕ) (l : Line) (o : Found) (goto2 : Line → Outcome) → ((t : Line) → Fine (goto2 t)) → Fine (turn T v l o goto2)
 turn-fine T v l Nothing goto2 h = refl
-turn-fine T v l (At f) goto2 h = serve-fine (leb (oldestCharge l f) (deficitOf (openAt T l f) f)) (v + 1) (openAt T l f) f goto2 h
+turn-fine T v l (At f) goto2 h = serve-fine T (leb (oldestCharge T l f) (deficitOf (openAt T l f) f)) (v + 1) (openAt T l f) f goto2 h
 
 look-fine : (T : Table) (k v : ℕ) (l : Line) → Fine (lookFor T k v l)
 unfolding lookFor
@@ -82,8 +95,24 @@ pick-fine T l = at-open (l .opened)
     on-test false = look-fine T enough 0 (closed (emptied l))
 
     at-open : (b : Bool) → Fine (pickAt T b l)
-    at-open true = on-test (readyb l (l .place))
+    at-open true = on-test (readyb T l (l .place))
     at-open false = look-fine T enough 0 l
+
+-- ---- the visits that a pick opens: each raises the sum of the deficits, which has a bound
+looks-visits : {T : Table} {v : ℕ} {l : Line} {a : Answer} {t : Line} → Looks T v l a t → Sound T l → l .opened ≡ false →
+    v ≤ overFlows (l .deficits) → visitsIn a ≤ mostCharges
+looks-visits (idles e) ok off h = omega arith
+looks-visits {T} (sends {l = l} {f = f} e enough) ok off h = omega (arith, sum-low T l ok off)
+looks-visits {T} (passes {l = l} {f = f} e short r) ok off h =
+    looks-visits r (visit-passes T l ok f e off short) refl (omega (arith, grows T l ok f e))
+
+picks-visits : {T : Table} {l : Line} {a : Answer} {t : Line} → Picks T l a t → Sound T l → visitsIn a ≤ mostCharges
+picks-visits (goes-on on r) ok = omega arith
+picks-visits {T} (closes {l = l} on stuck r) ok = looks-visits r (on-ends T l ok on stuck) refl (omega arith)
+picks-visits (starts off r) ok = looks-visits r ok off (omega arith)
+
+pub pick-visits : (T : Table) (l : Line) → Sound T l → visitsIn (pickOf T l .answer) ≤ mostCharges
+pick-visits T l ok = picks-visits (pick-is T l ok) ok
 
 -- ---- a pick from a fresh state
 pub fresh-idle : {T : Table} → Ranged T → pickReply (freshState T) ≡ reply idle (freshState T)

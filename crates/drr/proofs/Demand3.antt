@@ -10,7 +10,7 @@ use lib.Dec.{leb, ltb, eqb}
 use Rattle.drr.specs.Limits.{mostWaiting}
 use Rattle.drr.specs.declared.Table.{Table}
 use Rattle.drr.specs.declared.State.{State}
-use Rattle.drr.specs.State.{Line, quantumOf, maximumOf, waitingOf, lineIn, stateFrom}
+use Rattle.drr.specs.State.{Line, quantumOf, maximumOf, maximumCharge, waitingOf, lineIn, stateFrom}
 use Rattle.drr.specs.Sound.{soundState}
 use Rattle.drr.specs.Facts.{Sound, SoundState}
 use Rattle.drr.specs.Answers.{Answer, Outcome, outcome, Reply, reply, arrivalRefused, pickRefused}
@@ -40,11 +40,11 @@ answersOf T l (c ∷ cs) = callOf T l c .answer ∷ answersOf T (callOf T l c .l
 
 abbrev pub lineBytes : Table → Line → List Call → ℕ
 lineBytes T l [] = 0
-lineBytes T l (c ∷ cs) = bytesIn (callOf T l c .answer) + lineBytes T (callOf T l c .line) cs
+lineBytes T l (c ∷ cs) = bytesIn T (callOf T l c .answer) + lineBytes T (callOf T l c .line) cs
 
 abbrev pub lineSent : Table → Line → List Call → ℕ → ℕ
 lineSent T l [] i = 0
-lineSent T l (c ∷ cs) i = sentIn (callOf T l c .answer) i + lineSent T (callOf T l c .line) cs i
+lineSent T l (c ∷ cs) i = sentIn T (callOf T l c .answer) i + lineSent T (callOf T l c .line) cs i
 
 abbrev pub LineWaits : Table → Line → List Call → ℕ → Type 0
 LineWaits T l [] i = Unit {0}
@@ -65,8 +65,8 @@ module _ (T : Table) {Fit : Line → Type 0} {rank : Line → ℕ → ℕ} (O : 
   seenBy l = view T O i i<n l
 
   record Step (l : Line) (o : Outcome) : Type 0 where
-    run : Stretch (T .n) (quantumOf T) i (seenBy l) (sentIn (o .answer)) (seenBy (o .line))
-    whole : total (T .n) (sentIn (o .answer)) ≡ bytesIn (o .answer)
+    run : Stretch (T .n) (quantumOf T) i (seenBy l) (sentIn T (o .answer)) (seenBy (o .line))
+    whole : total (T .n) (sentIn T (o .answer)) ≡ bytesIn T (o .answer)
     fit : Fit (o .line)
 
   arrival-steps : (l : Line) → Fit l → (f len : ℕ) → Step l (arrivalOf T l f len)
@@ -96,7 +96,7 @@ module _ (T : Table) {Fit : Line → Type 0} {rank : Line → ℕ → ℕ} (O : 
   then-ran : (l : Line) (c : Call) (cs : List Call) → Step l (callOf T l c) → Ran (callOf T l c .line) cs → Ran l (c ∷ cs)
   then-ran l c cs a b = record {
     run = follow (a .run) (b .run);
-    whole = total-add (T .n) (sentIn (callOf T l c .answer)) (lineSent T (callOf T l c .line) cs) ∙ omega (arith, a .whole, b .whole);
+    whole = total-add (T .n) (sentIn T (callOf T l c .answer)) (lineSent T (callOf T l c .line) cs) ∙ omega (arith, a .whole, b .whole);
     fit = b .fit;
   }
 
@@ -113,9 +113,9 @@ module _ (T : Table) {Fit : Line → Type 0} {rank : Line → ℕ → ℕ} (O : 
     ran : Ran l cs
     ran = running l ok fit cs w
 
-    -- the floor with one taken off each maximum
+    -- the floor with one taken off each maximum charge
     pub floor-sharp : quantumOf T i * lineBytes T l cs
-        ≤ allQuanta T * lineSent T l cs i + lagWith (T .n) (quantumOf T) (λ j. maximumOf T j - 1) i
+        ≤ allQuanta T * lineSent T l cs i + lagWith (T .n) (quantumOf T) (λ j. maximumCharge T j - 1) i
     floor-sharp =
         rw (← ran .whole)
         (floor i<n (fair T O i i<n l fit _ (λ j k. omega (arith, sound-bounded T l ok j k))) (ran .run)
@@ -125,7 +125,7 @@ module _ (T : Table) {Fit : Line → Type 0} {rank : Line → ℕ → ℕ} (O : 
     -- between i and another flow j
     pub pairwise-sharp : (j : ℕ) → j < T .n → j ≢ i →
         quantumOf T i * lineSent T l cs j
-        ≤ quantumOf T j * (lineSent T l cs i + (quantumOf T i + (maximumOf T i - 1))) + quantumOf T i * (maximumOf T j - 1)
+        ≤ quantumOf T j * (lineSent T l cs i + (quantumOf T i + (maximumCharge T i - 1))) + quantumOf T i * (maximumCharge T j - 1)
     pairwise-sharp =
         pairwise i<n (fair T O i i<n l fit _ (λ j k. omega (arith, sound-bounded T l ok j k))) (ran .run)
         (fair T O i i<n (lineAfter T l cs) (ran .fit) _
@@ -136,7 +136,11 @@ module _ (T : Table) {Fit : Line → Type 0} {rank : Line → ℕ → ℕ} (O : 
     floor-line =
         let some : 0 < quantumOf T i = ok .flows i (omega (arith, ok .flows-few)) .used i<n .quantum-least in
         owed-at-most T i (quanta-some T i i<n some) (lineBytes T l cs) (lineSent T l cs i)
-        (omega (arith, floor-sharp, lag-mono (T .n) (quantumOf T) (λ j. maximumOf T j - 1) (maximumOf T) i i<n (λ j k. omega arith)))
+        (omega (
+          arith,
+          floor-sharp,
+          lag-mono (T .n) (quantumOf T) (λ j. maximumCharge T j - 1) (maximumCharge T) i i<n (λ j k. omega arith),
+        ))
 
 -- ---- from lines to states
 pub reply-is : (T : Table) (l : Line) → Sound T l → (c : Call) →
@@ -177,10 +181,10 @@ same T l ok (c ∷ cs) = go c (reply-is T l ok c) (same T (callOf T l c .line) (
       after = ap (λ (z : Reply). afterCalls (z .state) cs) e ∙ s .after;
       answers = ap (λ (z : Reply). z .answer ∷ answersTo (z .state) cs) e
           ∙ ap (λ (xs : List Answer). callOf T l c .answer ∷ xs) (s .answers);
-      bytes = ap (λ (z : Reply). bytesIn (z .answer) + bytesSent (z .state) cs) e
-          ∙ ap (λ (k : ℕ). bytesIn (callOf T l c .answer) + k) (s .bytes);
-      sent = λ i. ap (λ (z : Reply). sentIn (z .answer) i + flowSent (z .state) cs i) e
-          ∙ ap (λ (k : ℕ). sentIn (callOf T l c .answer) i + k) (s .sent i);
+      bytes = ap (λ (z : Reply). bytesIn T (z .answer) + bytesSent (z .state) cs) e
+          ∙ ap (λ (k : ℕ). bytesIn T (callOf T l c .answer) + k) (s .bytes);
+      sent = λ i. ap (λ (z : Reply). sentIn T (z .answer) i + flowSent (z .state) cs i) e
+          ∙ ap (λ (k : ℕ). sentIn T (callOf T l c .answer) i + k) (s .sent i);
       waits = waits c e s;
     }
 
@@ -213,8 +217,8 @@ PairAt s =
     (before stretch : List Call) (i j : ℕ) → i < s .table .n → j < s .table .n → j ≢ i → WaitsAtPicks (afterCalls s before) stretch i →
     quantumOf (s .table) i * flowSent (afterCalls s before) stretch j
     ≤ quantumOf (s .table) j *
-    (flowSent (afterCalls s before) stretch i + (quantumOf (s .table) i + (maximumOf (s .table) i - 1))) + quantumOf (s .table) i *
-    (maximumOf (s .table) j - 1)
+    (flowSent (afterCalls s before) stretch i + (quantumOf (s .table) i + (maximumCharge (s .table) i - 1))) + quantumOf (s .table) i *
+    (maximumCharge (s .table) j - 1)
 
 pair-at : (T : Table) (l : Line) → Sound T l → PairAt (stateFrom T l)
 pair-at T l ok before stretch i j i<n j<n ne w =
@@ -224,7 +228,7 @@ pair-at T l ok before stretch i j i<n j<n ne w =
     let z = same T m ok' stretch in
     let w' = z .waits i (subst (λ (t : State). WaitsAtPicks t stretch i) a w) in
     subst⁻¹ (λ (t : State). quantumOf T i * flowSent t stretch j
-    ≤ quantumOf T j * (flowSent t stretch i + (quantumOf T i + (maximumOf T i - 1))) + quantumOf T i * (maximumOf T j - 1)) a
+    ≤ quantumOf T j * (flowSent t stretch i + (quantumOf T i + (maximumCharge T i - 1))) + quantumOf T i * (maximumCharge T j - 1)) a
     (rw (z .sent i, z .sent j) (pairwise-sharp T (cyclic T) i i<n m ok' (placed ok' i<n) stretch w' j j<n ne))
 
 pub pairs : (s : State) → SoundState s → PairAt s

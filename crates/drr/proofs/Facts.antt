@@ -9,8 +9,8 @@ use lib.Dec.{ltb, leb, eqb}
 use lib.ListN.{getD, take}
 use Rattle.drr.specs.declared.Table.{Table}
 use Rattle.drr.specs.State.{Line, quantumOf, maximumOf, deficitOf, waitingOf, sumOf, rowOf, bytesOf, bytesWaiting}
-use Rattle.drr.specs.State.{oldest, charge}
-use Rattle.drr.specs.Limits.{leastQuantum, mostQuantum, leastMaximum, mostMaximum, mostWaiting, mostFlows}
+use Rattle.drr.specs.State.{oldestCharge, commonIn, spotAt}
+use Rattle.drr.specs.Limits.{leastQuantum, mostQuantum, leastMaximum, mostMaximum, mostOverhead, mostWaiting, mostFlows}
 use Rattle.drr.specs.Sound.{all, quantumb, maximumb, headb, rangeb, withinb, creditb, unusedb, numbersb}
 use Rattle.drr.specs.Sound.{visited, cellsb, sumb, flowb, soundb}
 use Rattle.drr.specs.Facts.{Credit, InUse, Unused, Flow, Shaped, Sound}
@@ -42,25 +42,25 @@ module _ (q m c : ℕ) where
 
 module _ (v : Bool) (d q c o : ℕ) where
   abbrev closedb : Bool
-  closedb = (eqb c 0 && eqb d 0) || (not (eqb c 0) && ltb d (charge o))
+  closedb = (eqb c 0 && eqb d 0) || (not (eqb c 0) && ltb d o)
 
-  credit-is : creditb v d q c o ≡ true → Credit v d q c (charge o)
+  credit-is : creditb v d q c o ≡ true → Credit v d q c o
   credit-is e =
       let k = chosen v (ltb d q) closedb e in
       record {
         visited-below = λ p. ltb-true d q (k .0 p);
-        empty-zero = λ p z. eqb-true d 0 (chosen (eqb c 0) (eqb d 0) (ltb d (charge o)) (k .1 p) .0 (eq-eqb c 0 z));
-        waiting-below = λ p z. ltb-true d (charge o)
-            (chosen (eqb c 0) (eqb d 0) (ltb d (charge o)) (k .1 p) .1 (ne-eqb c 0 (λ y. omega arith)));
+        empty-zero = λ p z. eqb-true d 0 (chosen (eqb c 0) (eqb d 0) (ltb d o) (k .1 p) .0 (eq-eqb c 0 z));
+        waiting-below = λ p z. ltb-true d o
+            (chosen (eqb c 0) (eqb d 0) (ltb d o) (k .1 p) .1 (ne-eqb c 0 (λ y. omega arith)));
       }
 
-  of-credit : Credit v d q c (charge o) → creditb v d q c o ≡ true
+  of-credit : Credit v d q c o → creditb v d q c o ≡ true
   of-credit u =
       choose v (ltb d q) closedb
       (λ p. lt-ltb d q (u .visited-below p))
-      (λ p. choose (eqb c 0) (eqb d 0) (ltb d (charge o))
+      (λ p. choose (eqb c 0) (eqb d 0) (ltb d o)
       (λ z. eq-eqb d 0 (u .empty-zero p (eqb-true c 0 z)))
-      (λ z. lt-ltb d (charge o) (u .waiting-below p (omega (arith, eqb-false c 0 z)))))
+      (λ z. lt-ltb d o (u .waiting-below p (omega (arith, eqb-false c 0 z)))))
 
 module _ (q m d c : ℕ) where
   unused-is : unusedb q m d c ≡ true → Unused q m d c
@@ -99,10 +99,10 @@ module _ (T : Table) (l : Line) (f : ℕ) where
   rangeOf = rangeb q m c
 
   abbrev creditOf : Bool
-  creditOf = creditb (visited l f) d q c (oldest l f)
+  creditOf = creditb (visited l f) d q c (oldestCharge T l f)
 
   abbrev numbersOf : Bool
-  numbersOf = numbersb (ltb f (T .n)) (visited l f) q m d c (oldest l f)
+  numbersOf = numbersb (ltb f (T .n)) (visited l f) q m d c (oldestCharge T l f)
 
   -- the free cells are zero
   free-zero : all mostWaiting (cellsb T l f) ≡ true → (k : ℕ) → k < mostWaiting → c ≤ k → cell k ≡ 0
@@ -133,7 +133,7 @@ module _ (T : Table) (l : Line) (f : ℕ) where
       let g : ((k : ℕ) → k < mostWaiting → cellsb T l f k ≡ true) = all-at mostWaiting (cellsb T l f) (and-right a b i) in
       record {
         used = λ x. in-use q m c (and-left rangeOf creditOf (h .0 (lt-ltb f (T .n) x)));
-        credit = λ x. credit-is (visited l f) d q c (oldest l f) (and-right rangeOf creditOf (h .0 (lt-ltb f (T .n) x)));
+        credit = λ x. credit-is (visited l f) d q c (oldestCharge T l f) (and-right rangeOf creditOf (h .0 (lt-ltb f (T .n) x)));
         unused = λ x. unused-is q m d c (h .1 (le-ltb f (T .n) x));
         waiting = λ k x w. within-is 1 m (cell k) (chosen (ltb k c) (withinb 1 m (cell k)) (eqb (cell k) 0) (g k x) .0 (lt-ltb k c w));
         rest = free-zero (and-right a b i);
@@ -147,7 +147,7 @@ module _ (T : Table) (l : Line) (f : ℕ) where
       (and-both
       (choose (ltb f (T .n)) (rangeOf && creditOf) (unusedb q m d c)
       (λ p. and-both (of-in-use q m c (u .used (ltb-true f (T .n) p)))
-      (of-credit (visited l f) d q c (oldest l f) (u .credit (ltb-true f (T .n) p))))
+      (of-credit (visited l f) d q c (oldestCharge T l f) (u .credit (ltb-true f (T .n) p))))
       (λ p. of-unused q m d c (u .unused (ltb-false f (T .n) p))))
       (all-of mostWaiting (cellsb T l f)
       (λ k x. choose (ltb k c) (withinb 1 m (cell k)) (eqb (cell k) 0)
@@ -156,8 +156,14 @@ module _ (T : Table) (l : Line) (f : ℕ) where
       (eq-eqb (sumOf l f) (bytesWaiting l f) (u .true-sum))
 
 module _ (T : Table) (l : Line) where
+  abbrev rangesb : Bool
+  rangesb = leb (T .n) mostFlows && leb (T .overhead) mostOverhead
+
+  abbrev noneb : Bool
+  noneb = eqb (T .n) 0 && eqb (T .overhead) 0
+
   abbrev zerob : Bool
-  zerob = eqb (T .n) 0 && eqb (l .place) 0
+  zerob = noneb && eqb (l .place) 0
 
   abbrev placeb : Bool
   placeb = ltb (l .place) (T .n) || (zerob && not (l .opened))
@@ -165,22 +171,27 @@ module _ (T : Table) (l : Line) where
   pub sound-is : Shaped T l → soundb T l ≡ true → Sound T l
   unfolding soundb
   sound-is shape e =
-      let a = headb (T .n) (l .place) (l .opened) in
+      let a = headb (commonIn T) (spotAt (l .place) (l .opened)) in
       let b = all mostFlows (flowb T l) in
       let h = and-left a b e in
       record {
         shape = shape;
-        flows-few = leb-true (T .n) mostFlows (and-left (leb (T .n) mostFlows) placeb h);
+        flows-few = leb-true (T .n) mostFlows
+            (and-left (leb (T .n) mostFlows) (leb (T .overhead) mostOverhead) (and-left rangesb placeb h));
+        overhead-in = leb-true (T .overhead) mostOverhead
+            (and-right (leb (T .n) mostFlows) (leb (T .overhead) mostOverhead) (and-left rangesb placeb h));
         placed =
             ⊎-elim
             (λ p. inl (ltb-true (l .place) (T .n) p))
             (λ p. let y = and-left zerob (not (l .opened)) p in
+            let z = and-left noneb (eqb (l .place) 0) y in
             inr (
-              eqb-true (T .n) 0 (and-left (eqb (T .n) 0) (eqb (l .place) 0) y),
-              eqb-true (l .place) 0 (and-right (eqb (T .n) 0) (eqb (l .place) 0) y),
+              eqb-true (T .n) 0 (and-left (eqb (T .n) 0) (eqb (T .overhead) 0) z),
+              eqb-true (T .overhead) 0 (and-right (eqb (T .n) 0) (eqb (T .overhead) 0) z),
+              eqb-true (l .place) 0 (and-right noneb (eqb (l .place) 0) y),
               not-true (l .opened) (and-right zerob (not (l .opened)) p),
             ))
-            (or-cases (ltb (l .place) (T .n)) (zerob && not (l .opened)) (and-right (leb (T .n) mostFlows) placeb h));
+            (or-cases (ltb (l .place) (T .n)) (zerob && not (l .opened)) (and-right rangesb placeb h));
         flows = λ f x. flow-is T l f (all-at mostFlows (flowb T l) (and-right a b e) f x);
       }
 
@@ -189,10 +200,12 @@ module _ (T : Table) (l : Line) where
   of-sound u =
       and-both
       (and-both
-      (le-leb (T .n) mostFlows (u .flows-few))
+      (and-both (le-leb (T .n) mostFlows (u .flows-few)) (le-leb (T .overhead) mostOverhead (u .overhead-in)))
       (⊎-elim
       (λ p. or-inl (ltb (l .place) (T .n)) (zerob && not (l .opened)) (lt-ltb (l .place) (T .n) p))
       (λ p. or-inr (ltb (l .place) (T .n)) (zerob && not (l .opened))
-      (and-both (and-both (eq-eqb (T .n) 0 (p .0)) (eq-eqb (l .place) 0 (p .1))) (not-of (p .2))))
+      (and-both
+      (and-both (and-both (eq-eqb (T .n) 0 (p .0)) (eq-eqb (T .overhead) 0 (p .1))) (eq-eqb (l .place) 0 (p .2)))
+      (not-of (p .3))))
       (u .placed)))
       (all-of mostFlows (flowb T l) (λ f x. of-flow T l f (u .flows f x)))

@@ -9,8 +9,8 @@ use native.Mathlib.Omega.{arith}
 use borrow.Author.Tests.{leb-true, le-leb}
 use lib.Dec.{leb}
 use Rattle.drr.specs.declared.Table.{Table}
-use Rattle.drr.specs.State.{quantumOf, maximumOf}
-use Rattle.drr.specs.Figures.{total, allQuanta, allMaxima, lag, Least, leastFrom, reachesb, owed, wait}
+use Rattle.drr.specs.State.{quantumOf, maximumCharge}
+use Rattle.drr.specs.Figures.{total, allQuanta, allCharges, lag, Least, leastFrom, reachesb, owed, wait}
 use Rattle.drr.proofs.Bools.{apart, below?, by-test}
 use Rattle.drr.proofs.Sums.{total-at}
 
@@ -113,7 +113,7 @@ module _ (T : Table) (one : T .n ≡ 1) (quantum : 0 < quantumOf T 0) where
   some = omega (arith, all-is (quantumOf T))
 
   pub one-flow-lag : lag T 0 ≡ 0
-  one-flow-lag = no-lag (quantumOf T 0) (maximumOf T 0) (allQuanta T) (allMaxima T) (all-is (quantumOf T)) (all-is (maximumOf T))
+  one-flow-lag = no-lag (quantumOf T 0) (maximumCharge T 0) (allQuanta T) (allCharges T) (all-is (quantumOf T)) (all-is (maximumCharge T))
 
   pub one-flow-owed : (S : ℕ) → owed T 0 S ≡ S
   one-flow-owed S =

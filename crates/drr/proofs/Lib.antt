@@ -27,3 +27,4 @@ pub mod Rows
 pub mod Account
 pub mod Meaning
 pub mod Paper
+pub mod Before

@@ -31,7 +31,7 @@ one-table T U r u e =
     (λ f p _. r .unused-zero f p .0) (λ f p _. u .unused-zero f (omega (arith, e .flows)) .0) in
     let ms = same-numbers (T .n) (T .maxima) (U .maxima) (r .maxima-length) (u .maxima-length) (e .maxima)
     (λ f p _. r .unused-zero f p .1) (λ f p _. u .unused-zero f (omega (arith, e .flows)) .1) in
-    λ i. record { n = e .flows i; quanta = qs i; maxima = ms i }
+    λ i. record { n = e .flows i; overhead = e .overheads i; quanta = qs i; maxima = ms i }
 
 -- two sound lines over one table
 module _ (T : Table) (l m : Line) (ok : Sound T l) (ok' : Sound T m)

@@ -8,7 +8,7 @@ use lib.Dec.{ltb, leb}
 use Rattle.drr.specs.declared.Table.{Table}
 use Rattle.drr.specs.declared.Found.{Found}
 use Rattle.drr.specs.declared.Found.the-variants.{At, Nothing}
-use Rattle.drr.specs.Limits.{mostMaxima}
+use Rattle.drr.specs.Limits.{mostCharges}
 use Rattle.drr.specs.State.{Line, deficitOf, waitingOf, oldest, oldestCharge}
 use Rattle.drr.specs.Facts.{Sound}
 use Rattle.drr.specs.Answers.{Answer, sentAs, Outcome, outcome}
@@ -28,10 +28,10 @@ never : (o : Found) (f : ℕ) → o ≡ At f → o ≡ Nothing → ⊥
 never o f p q = let z : _≡_ {A = ℕ} 0 1 = cc in omega arith
 
 -- one flow cannot be sent from and be passed by
-never-both : (T : Table) (l : Line) (f g : ℕ) → next T l ≡ At f → next T l ≡ At g → oldestCharge l f ≤ deficitOf (openAt T l f) f →
-    deficitOf (openAt T l g) g < oldestCharge l g → ⊥
+never-both : (T : Table) (l : Line) (f g : ℕ) → next T l ≡ At f → next T l ≡ At g → oldestCharge T l f ≤ deficitOf (openAt T l f) f →
+    deficitOf (openAt T l g) g < oldestCharge T l g → ⊥
 never-both T l f g p q enough short =
-    let z : deficitOf (openAt T l f) f < oldestCharge l f = subst (λ (x : ℕ). deficitOf (openAt T l x) x < oldestCharge l x)
+    let z : deficitOf (openAt T l f) f < oldestCharge T l f = subst (λ (x : ℕ). deficitOf (openAt T l x) x < oldestCharge T l x)
     (same-flow (next T l) g f q p) short in
     omega arith
 
@@ -43,7 +43,8 @@ looks-one {T} (idles p) (passes q r k) = absurd (never _ _ q p)
 looks-one {T} (sends p e) (idles q) = absurd (never _ _ p q)
 looks-one {T} (sends {v = v} {l = l} {f = f} p e) (sends {f = g} q r) =
     let same = same-flow (next T l) f g p q in
-    (ap (λ (x : ℕ). sentAs x (oldest l x) (deficitOf (sent (openAt T l x) x) x) (v + 1)) same, ap (λ (x : ℕ). sent (openAt T l x) x) same)
+    let there : ℕ → Line = λ x. sent T (openAt T l x) x in
+    (ap (λ (x : ℕ). sentAs x (oldest l x) (deficitOf (there x) x) (v + 1)) same, ap there same)
 looks-one {T} (sends {l = l} {f = f} p e) (passes {f = g} q r k) = absurd (never-both T l f g p q e r)
 looks-one {T} (passes p e k) (idles q) = absurd (never _ _ p q)
 looks-one {T} (passes {l = l} {f = f} p e k) (sends {f = g} q r) = absurd (never-both T l g f q p r e)
@@ -67,22 +68,22 @@ Is T v l r = Looks T v l (r .answer) (r .line)
 
 -- one turn, whatever a return to step 2 gives, as long as that is right with one visit more and a smaller measure
 module _ (T : Table) (v : ℕ) (l : Line) (ok : Sound T l) (off : l .opened ≡ false) (goto2 : Line → Outcome)
-    (on : (t : Line) → Sound T t → t .opened ≡ false → mostMaxima - overFlows (t .deficits) < mostMaxima - overFlows (l .deficits) →
+    (on : (t : Line) → Sound T t → t .opened ≡ false → mostCharges - overFlows (t .deficits) < mostCharges - overFlows (l .deficits) →
     Is T (v + 1) t (goto2 t)) where
-  served-is : (f : ℕ) → next T l ≡ At f → (b : Bool) → leb (oldestCharge l f) (deficitOf (openAt T l f) f) ≡ b →
-      Is T v l (serve b (v + 1) (openAt T l f) f goto2)
+  served-is : (f : ℕ) → next T l ≡ At f → (b : Bool) → leb (oldestCharge T l f) (deficitOf (openAt T l f) f) ≡ b →
+      Is T v l (serve T b (v + 1) (openAt T l f) f goto2)
   served-is f e true q = sends e (leb-true _ _ q)
   served-is f e false q =
-      let short = leb-false (oldestCharge l f) (deficitOf (openAt T l f) f) q in
+      let short = leb-false (oldestCharge T l f) (deficitOf (openAt T l f) f) q in
       let ok' = visit-passes T l ok f e off short in
       passes e short (on (closed (openAt T l f)) ok' refl (omega (arith, grows T l ok f e, sum-low T (closed (openAt T l f)) ok' refl)))
 
   turned-is : (o : Found) → next T l ≡ o → Is T v l (turn T v l o goto2)
   turned-is Nothing e = idles e
-  turned-is (At f) e = served-is f e (leb (oldestCharge l f) (deficitOf (openAt T l f) f)) refl
+  turned-is (At f) e = served-is f e (leb (oldestCharge T l f) (deficitOf (openAt T l f) f)) refl
 
 -- the computation never runs short: its count is above the measure
-looks-for : (T : Table) (k v : ℕ) (l : Line) → Sound T l → l .opened ≡ false → mostMaxima - overFlows (l .deficits) < k →
+looks-for : (T : Table) (k v : ℕ) (l : Line) → Sound T l → l .opened ≡ false → mostCharges - overFlows (l .deficits) < k →
     Is T v l (lookFor T k v l)
 unfolding lookFor
 looks-for T zero v l ok off h = absurd (omega arith)
@@ -104,16 +105,16 @@ pub pick-is : (T : Table) (l : Line) → Sound T l → Picks T l (pickOf T l .an
 pick-is T l ok = at-open (l .opened) refl
   where
     at-open : (b : Bool) → l .opened ≡ b → Picks T l (pickAt T b l .answer) (pickAt T b l .line)
-    at-open true on = on-test (ltb 0 (waitingOf l (l .place))) refl (leb (oldestCharge l (l .place)) (deficitOf l (l .place))) refl
+    at-open true on = on-test (ltb 0 (waitingOf l (l .place))) refl (leb (oldestCharge T l (l .place)) (deficitOf l (l .place))) refl
       where
-        ends : (Ready l (l .place) → ⊥) → Picks T l (carryOn T false l .answer) (carryOn T false l .line)
+        ends : (Ready T l (l .place) → ⊥) → Picks T l (carryOn T false l .answer) (carryOn T false l .line)
         ends stuck = closes on stuck (look-is T 0 (closed (emptied l)) (on-ends T l ok on stuck) refl)
 
         on-test : (w : Bool) → ltb 0 (waitingOf l (l .place)) ≡ w → (e : Bool) →
-            leb (oldestCharge l (l .place)) (deficitOf l (l .place)) ≡ e →
+            leb (oldestCharge T l (l .place)) (deficitOf l (l .place)) ≡ e →
             Picks T l (carryOn T (w && e) l .answer) (carryOn T (w && e) l .line)
         on-test true p true q = goes-on on (ltb-true _ _ p, leb-true _ _ q)
-        on-test true p false q = ends (λ r. omega (arith, r .1, leb-false (oldestCharge l (l .place)) (deficitOf l (l .place)) q))
+        on-test true p false q = ends (λ r. omega (arith, r .1, leb-false (oldestCharge T l (l .place)) (deficitOf l (l .place)) q))
         on-test false p e q = ends (λ r. omega (arith, r .0, ltb-false 0 (waitingOf l (l .place)) p))
     at-open false off = starts off (look-is T 0 l ok off)
 

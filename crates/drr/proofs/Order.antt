@@ -25,11 +25,11 @@ pub record Order (T : Table) (Fit : Line → Type 0) (rank : Line → ℕ → �
   pub closes : (l : Line) → Fit l → l .opened ≡ true → (i : ℕ) → i < T .n → 0 < waitingOf l i → NoPass (T .n) i (rank l) (rank (closed l))
   pub empties : (l : Line) → Fit l → l .opened ≡ true → (i : ℕ) → i < T .n → 0 < waitingOf l i →
       NoPass (T .n) i (rank l) (rank (closed (emptied l)))
-  pub sends : (l : Line) → Fit l → l .opened ≡ true → (i : ℕ) → NoPass (T .n) i (rank l) (rank (sent l (l .place)))
+  pub sends : (l : Line) → Fit l → l .opened ≡ true → (i : ℕ) → NoPass (T .n) i (rank l) (rank (sent T l (l .place)))
   pub books : (l : Line) → Fit l → (x length : ℕ) → x < T .n → (i : ℕ) → NoPass (T .n) i (rank l) (rank (put l x length))
   -- what the order keeps, is kept
   pub fit-opened : (l : Line) → Fit l → l .opened ≡ false → (x : ℕ) → next T l ≡ At x → Fit (openAt T l x)
   pub fit-closed : (l : Line) → Fit l → l .opened ≡ true → Fit (closed l)
   pub fit-emptied : (l : Line) → Fit l → l .opened ≡ true → Fit (closed (emptied l))
-  pub fit-sent : (l : Line) → Fit l → l .opened ≡ true → Fit (sent l (l .place))
+  pub fit-sent : (l : Line) → Fit l → l .opened ≡ true → Fit (sent T l (l .place))
   pub fit-put : (l : Line) → Fit l → (x length : ℕ) → x < T .n → Fit (put l x length)

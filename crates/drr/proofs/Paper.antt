@@ -296,7 +296,7 @@ point-tells T l m x y p e =
     back h = ⊎-elim
         (λ a. ⊎-elim (λ b. steps (ltb (l .place + 1) n) (ltb (m .place + 1) n) refl refl h a b)
         (λ b. absurd (omega (arith, a, b .0))) (y .placed))
-        (λ a. ⊎-elim (λ b. absurd (omega (arith, b, a .0))) (λ b. a .1 ∙ sym (b .1)) (y .placed))
+        (λ a. ⊎-elim (λ b. absurd (omega (arith, b, a .0))) (λ b. a .2 ∙ sym (b .2)) (y .placed))
         (x .placed)
       where
         steps : (a b : Bool) → ltb (l .place + 1) n ≡ a → ltb (m .place + 1) n ≡ b → cond a (l .place + 1) 0 ≡ cond b (m .place + 1) 0 →

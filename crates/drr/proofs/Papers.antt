@@ -7,7 +7,7 @@ use lib.ListN.{getD}
 use Rattle.drr.specs.declared.Refusal.{Refusal}
 use Rattle.drr.specs.declared.Refusal.the-variants.{UnknownFlow, NoLength, OverMaximum, RowFull}
 use Rattle.drr.specs.declared.Refusal.the-variants.{FlowCount, QuantumRange, MaximumRange, NotSound}
-use Rattle.drr.specs.declared.Refusal.the-variants.{FileLength, Reserved, EventCount, TablePlace, TickOrder, ListShort}
+use Rattle.drr.specs.declared.Refusal.the-variants.{FileLength, OverheadRange, EventCount, TablePlace, TickOrder, ListShort}
 use Rattle.drr.specs.declared.PickAnswer.{PickAnswer}
 use Rattle.drr.specs.declared.PickAnswer.the-variants as picks
 use Rattle.drr.specs.declared.ArrivalAnswer.{ArrivalAnswer}
@@ -28,7 +28,7 @@ refusalOf k =
     (cond (eqb k 7) MaximumRange
     (cond (eqb k 8) NotSound
     (cond (eqb k 9) FileLength
-    (cond (eqb k 10) Reserved
+    (cond (eqb k 10) OverheadRange
     (cond (eqb k 11) EventCount
     (cond (eqb k 12) TablePlace
     (cond (eqb k 13) TickOrder
@@ -50,7 +50,7 @@ named QuantumRange = record { back = refl; some = refl }
 named MaximumRange = record { back = refl; some = refl }
 named NotSound = record { back = refl; some = refl }
 named FileLength = record { back = refl; some = refl }
-named Reserved = record { back = refl; some = refl }
+named OverheadRange = record { back = refl; some = refl }
 named EventCount = record { back = refl; some = refl }
 named TablePlace = record { back = refl; some = refl }
 named TickOrder = record { back = refl; some = refl }

@@ -11,7 +11,7 @@ use lib.ListN.{length, set, length-set}
 use lib.Seq.{getD-set-same, getD-set-other, set-getD}
 use Rattle.drr.specs.declared.Table.{Table}
 use Rattle.drr.specs.declared.Found.the-variants.{At, Nothing}
-use Rattle.drr.specs.State.{Line, quantumOf, maximumOf, deficitOf, waitingOf, rowOf, lengthsIn, oldest, oldestCharge, shiftedOf}
+use Rattle.drr.specs.State.{Line, quantumOf, maximumCharge, deficitOf, waitingOf, rowOf, lengthsIn, oldest, oldestCharge, shiftedOf}
 use Rattle.drr.specs.Facts.{Sound}
 use Rattle.drr.specs.Answers.{Answer, idle, sentAs}
 use Rattle.drr.specs.Arrival.{put}
@@ -44,10 +44,10 @@ module _ (T : Table) {Fit : Line → Type 0} {rank : Line → ℕ → ℕ} (O : 
   --   stays   a flow that was sent bytes is open     took    i's row before is what it was given and its row after
   --   nobody  an idle answer means that nobody waits fit     what the order keeps
   pub record Served (l : Line) (a : Answer) (t : Line) : Type 0 where
-    pub run : 0 < waitingOf l i → Stretch (T .n) (quantumOf T) i (view l) (sentIn a) (view t)
-    pub whole : total (T .n) (sentIn a) ≡ bytesIn a
-    pub back : Bounded T t (sentIn a)
-    pub stays : (j : ℕ) → 0 < sentIn a j → (t .opened ≡ true) × (t .place ≡ j)
+    pub run : 0 < waitingOf l i → Stretch (T .n) (quantumOf T) i (view l) (sentIn T a) (view t)
+    pub whole : total (T .n) (sentIn T a) ≡ bytesIn T a
+    pub back : Bounded T t (sentIn T a)
+    pub stays : (j : ℕ) → 0 < sentIn T a j → (t .opened ≡ true) × (t .place ≡ j)
     pub took : lengthsIn l i ≡ givenIn a i ++ lengthsIn t i
     pub nobody : a ≡ idle → (j : ℕ) → j < T .n → 0 < waitingOf t j → ⊥
     pub fit : Fit t
@@ -132,19 +132,19 @@ module _ (T : Table) {Fit : Line → Type 0} {rank : Line → ℕ → ℕ} (O : 
     pub counts-in : m .place < length (m .counts)
     pub rows-in : m .place < length (m .rows)
     pub count-in : waitingOf m (m .place) ≤ length (rowOf m (m .place))
-    pub ready : Ready m (m .place)
-    pub own-below : deficitOf m (m .place) < maximumOf T (m .place) + quantumOf T (m .place)
-    pub others-below : (j : ℕ) → j < T .n → j ≢ m .place → deficitOf m j < maximumOf T j
+    pub ready : Ready T m (m .place)
+    pub own-below : deficitOf m (m .place) < maximumCharge T (m .place) + quantumOf T (m .place)
+    pub others-below : (j : ℕ) → j < T .n → j ≢ m .place → deficitOf m j < maximumCharge T j
 
   sending : (m : Line) → Open m → (v : ℕ) →
-      Served m (sentAs (m .place) (oldest m (m .place)) (deficitOf (sent m (m .place)) (m .place)) v) (sent m (m .place))
+      Served m (sentAs (m .place) (oldest m (m .place)) (deficitOf (sent T m (m .place)) (m .place)) v) (sent T m (m .place))
   unfolding only
   sending m o v =
       record {
-        run = λ w. send (T .n) (quantumOf T) i (m .deficits) (rank m) (rank (sent m p)) p (o .deficits-in) (oldestCharge m p) (o .ready .1)
-            (O .sends m (o .fit) (o .on) i);
-        whole = total-one (T .n) (only p (oldestCharge m p)) p (o .in-table) (only-other p (oldestCharge m p))
-            ∙ only-same p (oldestCharge m p);
+        run = λ w. send (T .n) (quantumOf T) i (m .deficits) (rank m) (rank (sent T m p)) p (o .deficits-in) (oldestCharge T m p)
+            (o .ready .1) (O .sends m (o .fit) (o .on) i);
+        whole = total-one (T .n) (only p (oldestCharge T m p)) p (o .in-table) (only-other p (oldestCharge T m p))
+            ∙ only-same p (oldestCharge T m p);
         back = sent-bounded T m (o .on) (o .deficits-in) (o .ready .1) (o .own-below) (o .others-below);
         stays = λ j some. stays j (eqb p j) refl some;
         took = ⊎-elim (λ e. rw e
@@ -167,7 +167,7 @@ module _ (T : Table) {Fit : Line → Type 0} {rank : Line → ℕ → ℕ} (O : 
       p : ℕ
       p = m .place
 
-      stays : (j : ℕ) (b : Bool) → eqb p j ≡ b → 0 < cond b (oldestCharge m p) 0 → (m .opened ≡ true) × (p ≡ j)
+      stays : (j : ℕ) (b : Bool) → eqb p j ≡ b → 0 < cond b (oldestCharge T m p) 0 → (m .opened ≡ true) × (p ≡ j)
       stays j true e some = (o .on, eqb-true p j e)
       stays j false e some = absurd (omega arith)
 

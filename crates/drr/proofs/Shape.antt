@@ -47,8 +47,8 @@ shaped s vs g =
     let r = b .1 .1 .1 .1 .1 .0 in
     let long : length (s .line .rows) ≡ 16 = array-long row.the-field 16 (s .line .rows) _ r in
     record {
-      quanta-length = array-long u32-field 16 (s .table .quanta) _ (a .1 .0);
-      maxima-length = array-long u32-field 16 (s .table .maxima) _ (a .1 .1 .0);
+      quanta-length = array-long u32-field 16 (s .table .quanta) _ (a .1 .1 .0);
+      maxima-length = array-long u32-field 16 (s .table .maxima) _ (a .1 .1 .1 .0);
       deficits-length = array-long u32-field 16 (s .line .deficits) _ (b .0);
       counts-length = array-long u8-field 16 (s .line .counts) _ (b .1 .0);
       sums-length = array-long u32-field 16 (s .line .sums) _ (b .1 .1 .0);

@@ -26,7 +26,7 @@ use Rattle.drr.proofs.Search.{found-waits}
 -- ---- one flow
 module _ {T : Table} {f : ℕ} {v : Bool} {d c w : ℕ} {row : List ℕ} (u : FlowFacts T f v d c w row) (in-table : f < T .n) where
   -- another deficit, and a visit open or not
-  recredit : (v' : Bool) (d' : ℕ) → Credit v' d' (quantumOf T f) c (charge (getD row 0 0)) → FlowFacts T f v' d' c w row
+  recredit : (v' : Bool) (d' : ℕ) → Credit v' d' (quantumOf T f) c (charge T (getD row 0 0)) → FlowFacts T f v' d' c w row
   recredit v' d' credit =
       record {
         used = u .used;
@@ -104,7 +104,7 @@ module _ {T : Table} {f : ℕ} {v : Bool} {d c w : ℕ} {row : List ℕ} (u : Fl
       there k x = getD-set-other row c k len 0 x
 
 pub sound-place : {T : Table} {l : Line} → Sound T l → l .place < 16
-sound-place ok = ⊎-elim (λ a. omega (arith, ok .flows-few)) (λ b. omega (arith, b .1)) (ok .placed)
+sound-place ok = ⊎-elim (λ a. omega (arith, ok .flows-few)) (λ b. omega (arith, b .2)) (ok .placed)
 
 -- ---- a line of which flow p alone is changed: its deficit, its row, or both
 module _ (T : Table) (l : Line) (ok : Sound T l) (p : ℕ) (in-table : p < T .n) where
@@ -170,6 +170,7 @@ module _ (T : Table) (l : Line) (ok : Sound T l) (p : ℕ) (in-table : p < T .n)
         shape = changed-shape (l .deficits) (ok .shape .deficits-length) (waitingOf l p + 1) (sumOf l p + len) row
             (length-set (rowOf l p) (waitingOf l p) len ∙ long) (l .place) (l .opened);
         flows-few = ok .flows-few;
+        overhead-in = ok .overhead-in;
         placed = ok .placed;
         flows = λ g x. ⊎-elim
             (λ e. rw e (rw (count-here (waitingOf l p + 1), sum-here (sumOf l p + len), row-here row)
@@ -197,7 +198,7 @@ module _ (T : Table) (l : Line) (ok : Sound T l) (p : ℕ) (in-table : p < T .n)
     other false g ne = refl
 
     -- no packet sent, no visit open
-    rests : (d : ℕ) → (waitingOf l p ≡ 0 → d ≡ 0) → (0 < waitingOf l p → d < oldestCharge l p) →
+    rests : (d : ℕ) → (waitingOf l p ≡ 0 → d ≡ 0) → (0 < waitingOf l p → d < oldestCharge T l p) →
         Sound T (withVisit (withDeficit l p d) p false)
     rests d a b = record {
       shape = record {
@@ -210,6 +211,7 @@ module _ (T : Table) (l : Line) (ok : Sound T l) (p : ℕ) (in-table : p < T .n)
         row-length = ok .shape .row-length;
       };
       flows-few = ok .flows-few;
+      overhead-in = ok .overhead-in;
       placed = inl in-table;
       flows = λ g x. ⊎-elim
           (λ e. rw e (rw (deficit-here d)
@@ -226,6 +228,7 @@ module _ (T : Table) (l : Line) (ok : Sound T l) (p : ℕ) (in-table : p < T .n)
       shape = changed-shape (set (l .deficits) p d) (length-set (l .deficits) p d ∙ ok .shape .deficits-length) (waitingOf l p - 1)
           (sumOf l p - oldest l p) (shiftedOf (rowOf l p)) (shift-long (rowOf l p) (ok .shape .row-length p low)) p true;
       flows-few = ok .flows-few;
+      overhead-in = ok .overhead-in;
       placed = inl in-table;
       flows = λ g x. ⊎-elim
           (λ e. rw e (rw (
@@ -268,37 +271,38 @@ module _ (T : Table) (l : Line) (ok : Sound T l) (f : ℕ) (at : next T l ≡ At
     shut on = absurd (apart on off)
 
     -- the deficit before the visit
-    pub before : deficitOf l f < oldestCharge l f
+    pub before : deficitOf l f < oldestCharge T l f
     before =
         ok .flows f (low T l ok f (found .0)) .credit (found .0) .waiting-below (ap (λ (b : Bool). b && eqb (l .place) f) off) (found .1)
 
-    pub visit-passes : deficitOf (openAt T l f) f < oldestCharge l f → Sound T (closed (openAt T l f))
+    pub visit-passes : deficitOf (openAt T l f) f < oldestCharge T l f → Sound T (closed (openAt T l f))
     visit-passes short =
         rests T l ok f (found .0) shut (deficitOf l f + quantumOf T f) (λ z. absurd (omega (arith, found .1))) (λ _. rw grown at short)
 
-    pub visit-sends : oldestCharge l f ≤ deficitOf (openAt T l f) f → Sound T (sent (openAt T l f) f)
+    pub visit-sends : oldestCharge T l f ≤ deficitOf (openAt T l f) f → Sound T (sent T (openAt T l f) f)
     visit-sends enough =
-        rw (set-set (l .deficits) f (deficitOf l f + quantumOf T f) (deficitOf (openAt T l f) f - oldestCharge l f))
-        (serves T l ok f (found .0) shut (found .1) (deficitOf (openAt T l f) f - oldestCharge l f) (omega (arith, grown, before, enough)))
+        rw (set-set (l .deficits) f (deficitOf l f + quantumOf T f) (deficitOf (openAt T l f) f - oldestCharge T l f))
+        (serves T l ok f (found .0) shut (found .1) (deficitOf (openAt T l f) f - oldestCharge T l f)
+        (omega (arith, grown, before, enough)))
 
 -- ---- step 1, in an open visit
 module _ (T : Table) (l : Line) (ok : Sound T l) (on : l .opened ≡ true) where
   pub place-in : l .place < T .n
-  place-in = ⊎-elim (λ p. p) (λ q. absurd (apart on (q .2))) (ok .placed)
+  place-in = ⊎-elim (λ p. p) (λ q. absurd (apart on (q .3))) (ok .placed)
 
   pub open-below : deficitOf l (l .place) < quantumOf T (l .place)
   open-below =
       ok .flows (l .place) (low T l ok (l .place) place-in) .credit place-in .visited-below (rw (on, eq-eqb (l .place) (l .place) refl))
 
-  pub on-sends : Ready l (l .place) → Sound T (sent l (l .place))
+  pub on-sends : Ready T l (l .place) → Sound T (sent T l (l .place))
   on-sends r =
-      let z = serves T l ok (l .place) place-in (λ _. refl) (r .0) (deficitOf l (l .place) - oldestCharge l (l .place))
+      let z = serves T l ok (l .place) place-in (λ _. refl) (r .0) (deficitOf l (l .place) - oldestCharge T l (l .place))
       (omega (arith, open-below)) in
       rw on z
 
-  pub on-ends : (Ready l (l .place) → ⊥) → Sound T (closed (emptied l))
+  pub on-ends : (Ready T l (l .place) → ⊥) → Sound T (closed (emptied l))
   on-ends stuck =
       rests T l ok (l .place) place-in (λ _. refl) _
       (λ z. rw (le-ltb 0 (waitingOf l (l .place)) (omega arith)))
       (λ z. rw (lt-ltb 0 (waitingOf l (l .place)) z)
-      (⊎-elim (λ lt. lt) (λ le. absurd (stuck (z, le))) (below? (deficitOf l (l .place)) (oldestCharge l (l .place)))))
+      (⊎-elim (λ lt. lt) (λ le. absurd (stuck (z, le))) (below? (deficitOf l (l .place)) (oldestCharge T l (l .place)))))

@@ -51,7 +51,7 @@ quiet a b =
     record { visits = c .visits; spent = λ j l. omega (arith, c .spent j l); kept = omega (arith, c .kept); turns = c .turns }
 
 -- ---- the floor, for deficits of at most m
--- C with m for the maxima
+-- C with m for the maximum charges
 abbrev pub lagWith : ℕ → (ℕ → ℕ) → (ℕ → ℕ) → ℕ → ℕ
 lagWith n Q m i = Q i * (total n m - m i) + (total n Q - Q i) * (Q i + m i)
 

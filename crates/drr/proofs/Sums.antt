@@ -43,6 +43,10 @@ pub total-none : (n : ℕ) → total n (λ j. 0) ≡ 0
 total-none zero = omega arith
 total-none (suc n) = omega (arith, total-none n)
 
+pub total-each : (n x : ℕ) → total n (λ j. x) ≡ n * x
+total-each zero x = omega arith
+total-each (suc n) x = omega (arith, total-each n x)
+
 -- a sum of which i alone counts
 pub total-one : (n : ℕ) (f : ℕ → ℕ) (i : ℕ) → i < n → ((j : ℕ) → j ≢ i → f j ≡ 0) → total n f ≡ f i
 total-one n f i l h =

@@ -6,18 +6,19 @@ use mathlib.Core.List.{List, [], _∷_}
 use Prim.Native.Nat.{ℕ, zero, suc, _+_, _≤_, _<_}
 use native.Mathlib.Nat.{not-suc-le-zero}
 use native.Mathlib.Omega.{arith}
-use borrow.Author.Tests.{ltb-false, eqb-true}
+use borrow.Author.Tests.{ltb-false, eqb-true, eqb-false}
 use lib.Dec.{ltb, eqb}
 use lib.ListN.{length, getD, replicate, getD-replicate, List·getD-eq-default}
 use Rattle.drr.specs.declared.Table.{Table}
 use Rattle.drr.specs.declared.FlowRecord.{FlowRecord}
-use Rattle.drr.specs.Limits.{mostFlows, leastQuantum, mostQuantum, leastMaximum, mostMaximum}
+use Rattle.drr.specs.declared.Terms.{Terms}
+use Rattle.drr.specs.Limits.{mostFlows, leastQuantum, mostQuantum, leastMaximum, mostMaximum, mostOverhead}
 use Rattle.drr.specs.State.{Line, freshLine, noFlows}
 use Rattle.drr.specs.Sound.{quantumb, maximumb}
 use Rattle.drr.specs.Facts.{Ranged, Sound}
 use Rattle.drr.specs.Answers.{refusedAt}
 use Rattle.drr.specs.Setup.{cells, tableFor, flowsAnswer, setupAnswer, setupTable}
-use Rattle.drr.proofs.Bools.{below?, by-test, within-is, or-right}
+use Rattle.drr.proofs.Bools.{below?, by-test, within-is, or-left, or-right}
 
 pub zero-at : (n f : ℕ) → getD {A = ℕ} (replicate n 0) f 0 ≡ 0
 zero-at zero f = refl
@@ -42,7 +43,11 @@ fresh-sound {T} r = record {
     row-length = λ f low. ap length (empty-row f low);
   };
   flows-few = r .flows-few;
-  placed = ⊎-elim (λ some. inl (omega arith)) (λ none. inr (omega arith, omega arith, refl)) (below? 0 (T .n));
+  overhead-in = r .overhead-in;
+  placed = ⊎-elim
+      (λ some. inl (omega arith))
+      (λ none. inr (omega arith, r .no-overhead (omega arith), omega arith, refl))
+      (below? 0 (T .n));
   flows = λ f low. rw (zero-at 16 f, empty-row f low) (record {
     used = λ l. let q = r .quantum-in f l in let m = r .maximum-in f l in
         record { quantum-least = q .0; quantum-most = q .1; maximum-least = m .0; maximum-most = m .1; count-most = omega arith };
@@ -64,6 +69,8 @@ sound-ranged {T} {l} ok = record {
   quanta-length = ok .shape .quanta-length;
   maxima-length = ok .shape .maxima-length;
   flows-few = ok .flows-few;
+  overhead-in = ok .overhead-in;
+  no-overhead = λ none. ⊎-elim (λ some. absurd (omega arith)) (λ p. p .1) (ok .placed);
   quantum-in = λ f k. let u = ok .flows f (omega arith) .used k in (u .quantum-least, u .quantum-most);
   maximum-in = λ f k. let u = ok .flows f (omega arith) .used k in (u .maximum-least, u .maximum-most);
   unused-zero = λ f k. ⊎-elim
@@ -80,6 +87,8 @@ no-flows-ranged = record {
   quanta-length = refl;
   maxima-length = refl;
   flows-few = omega arith;
+  overhead-in = omega arith;
+  no-overhead = λ _. refl;
   quantum-in = λ f l. absurd (omega arith);
   maximum-in = λ f l. absurd (omega arith);
   unused-zero = λ f l. (zero-at 16 f, zero-at 16 f);
@@ -135,26 +144,31 @@ flows-in f [] e i l = absurd (omega arith)
 flows-in f (x ∷ xs) e zero l = first-in f x xs e .0
 flows-in f (x ∷ xs) e (suc i) l = flows-in (f + 1) xs (first-in f x xs e .1) i (omega arith)
 
-pub made-ranged : (xs : List FlowRecord) → setupAnswer xs .refusal ≡ 0 → Ranged (tableFor xs)
+pub made-ranged : (xs : List FlowRecord) (terms : Terms) → setupAnswer xs terms .refusal ≡ 0 → Ranged (tableFor xs terms)
 unfolding setupAnswer
-made-ranged xs e = go (eqb (length xs) 0 || ltb mostFlows (length xs)) refl e
+made-ranged xs terms e =
+    go (ltb mostOverhead (terms .overhead)) refl (eqb (length xs) 0 || ltb mostFlows (length xs)) refl e
   where
-    go : (b : Bool) → (eqb (length xs) 0 || ltb mostFlows (length xs)) ≡ b →
-        cond b (refusedAt 5 0) (flowsAnswer 0 xs) .refusal ≡ 0 → Ranged (tableFor xs)
-    go true p h = absurd (omega arith)
-    go false p h =
+    go : (o : Bool) → ltb mostOverhead (terms .overhead) ≡ o → (b : Bool) → (eqb (length xs) 0 || ltb mostFlows (length xs)) ≡ b →
+        cond o (refusedAt 10 0) (cond b (refusedAt 5 0) (flowsAnswer 0 xs)) .refusal ≡ 0 → Ranged (tableFor xs terms)
+    go true w b p h = absurd (omega arith)
+    go false w true p h = absurd (omega arith)
+    go false w false p h =
         let few = ltb-false mostFlows (length xs) (or-right (eqb (length xs) 0) (ltb mostFlows (length xs)) p) in
         record {
           quanta-length = cells-long (λ r. r .quantum) 16 xs;
           maxima-length = cells-long (λ r. r .maximum) 16 xs;
           flows-few = few;
+          overhead-in = ltb-false mostOverhead (terms .overhead) w;
+          no-overhead = λ none. absurd (eqb-false (length xs) 0 (or-left (eqb (length xs) 0) (ltb mostFlows (length xs)) p) none);
           quantum-in = λ f l. rw (cell-of (λ r. r .quantum) 16 f xs (omega arith) l) (flows-in 0 xs h f l .quantum);
           maximum-in = λ f l. rw (cell-of (λ r. r .maximum) 16 f xs (omega arith) l) (flows-in 0 xs h f l .maximum);
           unused-zero = λ f l. (cell-past (λ r. r .quantum) 16 f xs l, cell-past (λ r. r .maximum) 16 f xs l);
         }
 
 -- the table that setup gives, refused or not
-pub setup-ranged : (xs : List FlowRecord) → Ranged (setupTable xs)
+pub setup-ranged : (xs : List FlowRecord) (terms : Terms) → Ranged (setupTable xs terms)
 unfolding setupTable
-setup-ranged xs = by-test Ranged (eqb (setupAnswer xs .refusal) 0) (λ e. made-ranged xs (eqb-true (setupAnswer xs .refusal) 0 e))
+setup-ranged xs terms = by-test Ranged (eqb (setupAnswer xs terms .refusal) 0)
+    (λ e. made-ranged xs terms (eqb-true (setupAnswer xs terms .refusal) 0 e))
     (λ _. no-flows-ranged)

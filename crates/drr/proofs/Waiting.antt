@@ -19,7 +19,7 @@ use Rattle.drr.specs.Computed.{pickOf}
 use Rattle.drr.proofs.Bools.{below?}
 use Rattle.drr.proofs.Steps.{low, found-in, visit-passes, place-in, on-ends}
 use Rattle.drr.proofs.Sums.{overFlows, sum-set, sum-none}
-use Rattle.drr.proofs.Visits.{charge-most}
+use Rattle.drr.proofs.Visits.{length-most}
 use Rattle.drr.proofs.Tables.{zero-at}
 use Rattle.drr.proofs.One.{pick-is}
 use Rattle.drr.proofs.Round.{search-none}
@@ -36,9 +36,9 @@ put-waits T l ok f len in-table =
     omega (arith, sum-set (l .counts) f (waitingOf l f + 1) inside (omega (arith, ok .shape .counts-length)))
 
 -- a packet taken off the row of flow f
-sent-waits : (l : Line) (f : ℕ) → f < mostFlows → length (l .counts) ≡ mostFlows → 0 < waitingOf l f →
-    waitingAll (sent l f) + 1 ≡ waitingAll l
-sent-waits l f inside long some = omega (arith, sum-set (l .counts) f (waitingOf l f - 1) inside (omega arith))
+sent-waits : (T : Table) (l : Line) (f : ℕ) → f < mostFlows → length (l .counts) ≡ mostFlows → 0 < waitingOf l f →
+    waitingAll (sent T l f) + 1 ≡ waitingAll l
+sent-waits T l f inside long some = omega (arith, sum-set (l .counts) f (waitingOf l f - 1) inside (omega arith))
 
 -- where the search finds nothing, nothing waits
 none-waits : (T : Table) (l : Line) → Sound T l → next T l ≡ Nothing → waitingAll l ≡ 0
@@ -62,8 +62,8 @@ looks-as : {T : Table} {v : ℕ} {l : Line} {a : Answer} {t : Line} → Looks T 
 looks-as {T} (idles {l = l} e) ok off = idled refl (none-waits T l ok e) (none-waits T l ok e)
 looks-as {T} (sends {v = v} {l = l} {f = f} e enough) ok off =
     let k = found-in T l f e in
-    gave f (oldest l f) (deficitOf (sent (openAt T l f) f) f) (v + 1) refl
-    (sent-waits (openAt T l f) f (low T l ok f (k .0)) (ok .shape .counts-length) (k .1)) (charge-most T l ok f (k .0) (k .1))
+    gave f (oldest l f) (deficitOf (sent T (openAt T l f) f) f) (v + 1) refl
+    (sent-waits T (openAt T l f) f (low T l ok f (k .0)) (ok .shape .counts-length) (k .1)) (length-most T l ok f (k .0) (k .1))
 looks-as {T} (passes {l = l} {f = f} e short r) ok off = again (looks-as r (visit-passes T l ok f e off short) refl)
   where
     again : {a : Answer} {t : Line} → PickedAs (closed (openAt T l f)) a t → PickedAs l a t
@@ -73,8 +73,8 @@ looks-as {T} (passes {l = l} {f = f} e short r) ok off = again (looks-as r (visi
 picks-as : {T : Table} {l : Line} {a : Answer} {t : Line} → Picks T l a t → Sound T l → PickedAs l a t
 picks-as {T} (goes-on {l = l} on r) ok =
     let k = place-in T l ok on in
-    gave (l .place) (oldest l (l .place)) (deficitOf (sent l (l .place)) (l .place)) 0 refl
-    (sent-waits l (l .place) (low T l ok (l .place) k) (ok .shape .counts-length) (r .0)) (charge-most T l ok (l .place) k (r .0))
+    gave (l .place) (oldest l (l .place)) (deficitOf (sent T l (l .place)) (l .place)) 0 refl
+    (sent-waits T l (l .place) (low T l ok (l .place) k) (ok .shape .counts-length) (r .0)) (length-most T l ok (l .place) k (r .0))
 picks-as {T} (closes {l = l} on stuck r) ok = again (looks-as r (on-ends T l ok on stuck) refl)
   where
     again : {a : Answer} {t : Line} → PickedAs (closed (emptied l)) a t → PickedAs l a t

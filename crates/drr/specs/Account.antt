@@ -6,6 +6,7 @@ use Prim.Native.Nat.{ℕ, _+_, _<_}
 use lib.Dec.{eqb}
 use Rattle.drr.specs.declared.State.{State}
 use Rattle.drr.specs.declared.FlowRecord.{FlowRecord}
+use Rattle.drr.specs.declared.Terms.{Terms}
 use Rattle.drr.specs.State.{bytesWaiting, lineIn}
 use Rattle.drr.specs.Facts.{SoundState}
 use Rattle.drr.specs.Answers.{Answer, flowIn, lengthIn}
@@ -66,10 +67,12 @@ Even these waiting s cs =
 -- "Over any calls from fresh", of a setup that is accepted: for each flow
 abbrev pub FreshAccount : Type 0
 FreshAccount =
-    (xs : List FlowRecord) → setupReply xs .answer .refusal ≡ 0 → (cs : List Call) (i : ℕ) → i < setupReply xs .state .table .n →
-    Even (justFlow i) (bytesWaitingIn i) (setupReply xs .state) cs
+    (xs : List FlowRecord) (terms : Terms) → setupReply xs terms .answer .refusal ≡ 0 →
+    (cs : List Call) (i : ℕ) → i < setupReply xs terms .state .table .n →
+    Even (justFlow i) (bytesWaitingIn i) (setupReply xs terms .state) cs
 
 -- .. and for all flows together
 abbrev pub FreshAccountOfAll : Type 0
 FreshAccountOfAll =
-    (xs : List FlowRecord) → setupReply xs .answer .refusal ≡ 0 → (cs : List Call) → Even anyFlow allBytesWaiting (setupReply xs .state) cs
+    (xs : List FlowRecord) (terms : Terms) → setupReply xs terms .answer .refusal ≡ 0 →
+    (cs : List Call) → Even anyFlow allBytesWaiting (setupReply xs terms .state) cs

@@ -7,7 +7,7 @@ use Rattle.drr.specs.declared.State.{State}
 use Rattle.drr.specs.declared.Refusal.{Refusal}
 use Rattle.drr.specs.declared.Refusal.the-variants.{UnknownFlow, NoLength, OverMaximum, RowFull}
 use Rattle.drr.specs.declared.Refusal.the-variants.{FlowCount, QuantumRange, MaximumRange, NotSound}
-use Rattle.drr.specs.declared.Refusal.the-variants.{FileLength, Reserved, EventCount, TablePlace, TickOrder, ListShort}
+use Rattle.drr.specs.declared.Refusal.the-variants.{FileLength, OverheadRange, EventCount, TablePlace, TickOrder, ListShort}
 use Rattle.drr.specs.declared.PickAnswer.{PickAnswer}
 use Rattle.drr.specs.declared.PickAnswer.the-variants as picks
 use Rattle.drr.specs.declared.ArrivalAnswer.{ArrivalAnswer}
@@ -28,7 +28,7 @@ numberOf QuantumRange = 6
 numberOf MaximumRange = 7
 numberOf NotSound = 8
 numberOf FileLength = 9
-numberOf Reserved = 10
+numberOf OverheadRange = 10
 numberOf EventCount = 11
 numberOf TablePlace = 12
 numberOf TickOrder = 13
@@ -52,12 +52,15 @@ idle = answer 0 []
 abbrev pub sentAs : ℕ → ℕ → ℕ → ℕ → Answer
 sentAs flow length deficit visits = record { refusal = 0; sends = true; numbers = flow ∷ length ∷ deficit ∷ visits ∷ [] }
 
--- the flow and the length of a packet sent
+-- the flow and the length of a packet sent, and the visits opened for it
 abbrev pub flowIn : Answer → ℕ
 flowIn a = getD (a .numbers) 0 0
 
 abbrev pub lengthIn : Answer → ℕ
 lengthIn a = getD (a .numbers) 1 0
+
+abbrev pub visitsIn : Answer → ℕ
+visitsIn a = getD (a .numbers) 3 0
 
 -- "Beside a refusal every other number of the answer, state and place apart, is 0."
 abbrev pub pickRefused : ℕ → Answer

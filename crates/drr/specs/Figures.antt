@@ -1,26 +1,26 @@
--- "The two figures" of a flow: what it is owed of S bytes, and how long it may wait for the first.
+-- "The two figures" of a flow: what it is owed of S bytes on the line, and how long it may wait for the first.
 use mathlib.Core.Bool.{Bool, cond}
 use Prim.Native.Nat.{ℕ, zero, suc, _+_, _*_, _-_, _≤_}
 use lib.Dec.{leb}
 use Rattle.drr.specs.declared.Table.{Table}
-use Rattle.drr.specs.State.{quantumOf, maximumOf}
+use Rattle.drr.specs.State.{quantumOf, maximumCharge}
 
 -- f 0 + f 1 + .. + f (n - 1)
 abbrev pub total : ℕ → (ℕ → ℕ) → ℕ
 total zero f = 0
 total (suc n) f = total n f + f n
 
--- "F is the sum of all quanta and L the sum of all maxima."
+-- "F is the sum of all quanta and L the sum of all maxima", E2: "with each l raised by the overhead", so of all maximum charges.
 abbrev pub allQuanta : Table → ℕ
 allQuanta T = total (T .n) (quantumOf T)
 
-abbrev pub allMaxima : Table → ℕ
-allMaxima T = total (T .n) (maximumOf T)
+abbrev pub allCharges : Table → ℕ
+allCharges T = total (T .n) (maximumCharge T)
 
--- "For flow i, C = Q × (L - l) + (F - Q) × (Q + l), with Q and l those of flow i."
+-- "For flow i, C = Q × (L - l) + (F - Q) × (Q + l), with Q and l those of flow i", l raised too
 abbrev pub lag : Table → ℕ → ℕ
 lag T i =
-    quantumOf T i * (allMaxima T - maximumOf T i) + (allQuanta T - quantumOf T i) * (quantumOf T i + maximumOf T i)
+    quantumOf T i * (allCharges T - maximumCharge T i) + (allQuanta T - quantumOf T i) * (quantumOf T i + maximumCharge T i)
 
 -- "the least whole number that ..", "the least S at which .."
 pub record Least (P : ℕ → Type 0) (x : ℕ) : Type 0 where

@@ -41,11 +41,12 @@ abbrev pub lineAfter : Table → Line → List Call → Line
 lineAfter T l [] = l
 lineAfter T l (c ∷ cs) = lineAfter T (callOf T l c .line) cs
 
--- the bytes that an answer says were sent to flow i; a refused pick is no sending, and its zeros count for nothing
-abbrev pub sentIn : Answer → ℕ → ℕ
-sentIn a i = cond (a .sends && eqb (flowIn a) i) (charge (lengthIn a)) 0
+-- the bytes on the line, which are charges, of the packet that an answer says was sent to flow i; a refused pick is no sending, and
+-- its zeros count for nothing
+abbrev pub sentIn : Table → Answer → ℕ → ℕ
+sentIn T a i = cond (a .sends && eqb (flowIn a) i) (charge T (lengthIn a)) 0
 
--- .. and their lengths
+-- .. and its length
 abbrev pub givenIn : Answer → ℕ → List ℕ
 givenIn a i = cond (a .sends && eqb (flowIn a) i) (lengthIn a ∷ []) []
 
@@ -53,19 +54,19 @@ givenIn a i = cond (a .sends && eqb (flowIn a) i) (lengthIn a ∷ []) []
 abbrev pub addedTo : ℕ → ℕ → ℕ → ℕ → List ℕ
 addedTo refusal flow length i = cond (eqb refusal 0 && eqb flow i) (length ∷ []) []
 
--- the bytes sent in all
-abbrev pub bytesIn : Answer → ℕ
-bytesIn a = cond (a .sends) (charge (lengthIn a)) 0
+-- the bytes on the line of a packet sent, whatever its flow
+abbrev pub bytesIn : Table → Answer → ℕ
+bytesIn T a = cond (a .sends) (charge T (lengthIn a)) 0
 
--- "if the picks sent S bytes in all"
+-- "if the picks sent S bytes in all", E2: "S .. [speaks] of charges"
 abbrev pub bytesSent : State → List Call → ℕ
 bytesSent s [] = 0
-bytesSent s (c ∷ cs) = bytesIn (replyTo s c .answer) + bytesSent (replyTo s c .state) cs
+bytesSent s (c ∷ cs) = bytesIn (s .table) (replyTo s c .answer) + bytesSent (replyTo s c .state) cs
 
--- "that flow was sent"
+-- "that flow was sent", E2: "what demand 3 says a flow was sent" too
 abbrev pub flowSent : State → List Call → ℕ → ℕ
 flowSent s [] i = 0
-flowSent s (c ∷ cs) i = sentIn (replyTo s c .answer) i + flowSent (replyTo s c .state) cs i
+flowSent s (c ∷ cs) i = sentIn (s .table) (replyTo s c .answer) i + flowSent (replyTo s c .state) cs i
 
 abbrev pub Waits : State → ℕ → Type 0
 Waits s i = 0 < waitingOf (lineIn (s .line)) i

@@ -67,14 +67,14 @@ past outside n i = line18 i
 past inside n i = line6 (after n i)
 
 -- 12 (not empty(i)) and
--- 13   (size(head(i)) ≤ DC[i])      a packet's size is 01's charge
-abbrev pub Fits : Memory → ℕ → Type 0
-Fits m i = (0 < count m i) × (charge (head m i) ≤ DC m i)
+-- 13   (size(head(i)) ≤ DC[i])      a packet's size is its charge
+abbrev pub Fits : Table → Memory → ℕ → Type 0
+Fits T m i = (0 < count m i) × (charge T (head m i) ≤ DC m i)
 
 -- 15 DC[i] ← DC[i] - size(head(i)) ;
 -- 16 removeHead(i) ;
-abbrev pub charged : Memory → ℕ → Memory
-charged m i = removeHead (assign m i (DC m i - charge (head m i))) i
+abbrev pub charged : Table → Memory → ℕ → Memory
+charged T m i = removeHead (assign m i (DC m i - charge T (head m i))) i
 
 -- `Runs T r v k p m a q t`: from p and m on the listing's next packet is a's, or a is 01's idle, and it then stands at q with t. So far
 -- v prints since the last packet, which are 01's visits; k more queues found empty in a row make a whole round.
@@ -90,10 +90,10 @@ pub data Runs (T : Table) (r : Reading) : ℕ → ℕ → Point → Memory → A
       Runs T r v k (past r (T .n) i) m a q t → Runs T r v (suc k) (line6 i) m a q t
   -- 12   while (not empty(i)) and (size(head(i)) ≤ DC[i]) do
   -- 14     send(head(i)) ;
-  sends : {v k i : ℕ} {m : Memory} → Fits m i →
-      Runs T r v k (line12 i) m (sentAs i (head m i) (DC (charged m i) i) v) (line12 i) (charged m i)
+  sends : {v k i : ℕ} {m : Memory} → Fits T m i →
+      Runs T r v k (line12 i) m (sentAs i (head m i) (DC (charged T m i) i) v) (line12 i) (charged T m i)
   -- 17   end
-  leaves : {v k i : ℕ} {m t : Memory} {a : Answer} {q : Point} → (Fits m i → ⊥) →
+  leaves : {v k i : ℕ} {m t : Memory} {a : Answer} {q : Point} → (Fits T m i → ⊥) →
       Runs T r v k (line18 i) m a q t → Runs T r v k (line12 i) m a q t
   -- 18 if empty(i) then
   -- 19   DC[i] ← 0

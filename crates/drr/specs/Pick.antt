@@ -38,33 +38,34 @@ closed l = withVisit l (l .place) false
 abbrev pub emptied : Line → Line
 emptied l = withDeficit l (l .place) (cond (ltb 0 (waitingOf l (l .place))) (deficitOf l (l .place)) 0)
 
--- "Sending takes the oldest length off the row and subtracts it from the deficit. The visit stays open." E1: and from the sum.
-abbrev pub sent : Line → ℕ → Line
-sent l f =
-    withRow (withDeficit l f (deficitOf l f - oldestCharge l f)) f (waitingOf l f - 1) (sumOf l f - oldest l f) (shiftedOf (rowOf l f))
+-- "Sending takes the oldest length off the row and subtracts it", E2: its charge, "from the deficit. The visit stays open." E1: the sum
+-- loses the length.
+abbrev pub sent : Table → Line → ℕ → Line
+sent T l f =
+    withRow (withDeficit l f (deficitOf l f - oldestCharge T l f)) f (waitingOf l f - 1) (sumOf l f - oldest l f) (shiftedOf (rowOf l f))
 
 -- steps 2 and 3, where v visits have been opened so far in this pick
 pub data Looks (T : Table) : ℕ → Line → Answer → Line → Type 0 where
   -- "If there is none, the answer is idle and the place stays."
   idles : {v : ℕ} {l : Line} → next T l ≡ Nothing → Looks T v l idle l
-  -- "the count of visits grows by one. If its oldest length is at most the deficit, send it."
-  sends : {v : ℕ} {l : Line} {f : ℕ} → next T l ≡ At f → oldestCharge l f ≤ deficitOf (openAt T l f) f →
-      Looks T v l (sentAs f (oldest l f) (deficitOf (sent (openAt T l f) f) f) (v + 1)) (sent (openAt T l f) f)
+  -- "the count of visits grows by one. If its oldest length", E2: its oldest charge, "is at most the deficit, send it."
+  sends : {v : ℕ} {l : Line} {f : ℕ} → next T l ≡ At f → oldestCharge T l f ≤ deficitOf (openAt T l f) f →
+      Looks T v l (sentAs f (oldest l f) (deficitOf (sent T (openAt T l f) f) f) (v + 1)) (sent T (openAt T l f) f)
   -- "Otherwise close the visit, keep the deficit, and go to 2."
-  passes : {v : ℕ} {l : Line} {f : ℕ} {a : Answer} {t : Line} → next T l ≡ At f → deficitOf (openAt T l f) f < oldestCharge l f →
+  passes : {v : ℕ} {l : Line} {f : ℕ} {a : Answer} {t : Line} → next T l ≡ At f → deficitOf (openAt T l f) f < oldestCharge T l f →
       Looks T (v + 1) (closed (openAt T l f)) a t → Looks T v l a t
 
--- "where the flow has a packet waiting and its oldest length is at most the deficit"
-abbrev pub Ready : Line → ℕ → Type 0
-Ready l f = (0 < waitingOf l f) × (oldestCharge l f ≤ deficitOf l f)
+-- "where the flow has a packet waiting and its oldest length", E2: its oldest charge, "is at most the deficit"
+abbrev pub Ready : Table → Line → ℕ → Type 0
+Ready T l f = (0 < waitingOf l f) × (oldestCharge T l f ≤ deficitOf l f)
 
 -- the pick
 pub data Picks (T : Table) : Line → Answer → Line → Type 0 where
-  -- step 1: "If a visit is open: where the flow has a packet waiting and its oldest length is at most the deficit, send it."
-  goes-on : {l : Line} → l .opened ≡ true → Ready l (l .place) →
-      Picks T l (sentAs (l .place) (oldest l (l .place)) (deficitOf (sent l (l .place)) (l .place)) 0) (sent l (l .place))
+  -- step 1: "If a visit is open: where the flow has a packet waiting and [its charge] is at most the deficit, send it."
+  goes-on : {l : Line} → l .opened ≡ true → Ready T l (l .place) →
+      Picks T l (sentAs (l .place) (oldest l (l .place)) (deficitOf (sent T l (l .place)) (l .place)) 0) (sent T l (l .place))
   -- "Otherwise close the visit, and set the deficit to 0 if the flow is empty."
-  closes : {l : Line} {a : Answer} {t : Line} → l .opened ≡ true → (Ready l (l .place) → ⊥) →
+  closes : {l : Line} {a : Answer} {t : Line} → l .opened ≡ true → (Ready T l (l .place) → ⊥) →
       Looks T 0 (closed (emptied l)) a t → Picks T l a t
   -- "With no visit open"
   starts : {l : Line} {a : Answer} {t : Line} → l .opened ≡ false → Looks T 0 l a t → Picks T l a t

@@ -10,15 +10,16 @@ use Rattle.drr.specs.declared.Line.{Line as StoredLine}
 use Rattle.drr.specs.declared.State.{State}
 use Rattle.drr.specs.declared.Spot.{Spot}
 
--- "The state holds n, quanta, maxima": the table, which setup fixes. Its numbers that are no flow's own go in one record.
-abbrev pub common : ℕ → Common
-common n = record { n = n }
+-- "The state holds n, quanta, maxima", E2: "The table gets an overhead per packet": the table, which setup fixes. Its numbers that are
+-- no flow's own go in one record.
+abbrev pub common : ℕ → ℕ → Common
+common n overhead = record { n = n; overhead = overhead }
 
 abbrev pub commonIn : Table → Common
-commonIn T = common (T .n)
+commonIn T = common (T .n) (T .overhead)
 
 abbrev pub tableOf : Common → List ℕ → List ℕ → Table
-tableOf c quanta maxima = record { n = c .n; quanta = quanta; maxima = maxima }
+tableOf c quanta maxima = record { n = c .n; overhead = c .overhead; quanta = quanta; maxima = maxima }
 
 -- "one deficit and one waiting count per flow, the place (flow visited last), whether its visit is open, and the waiting lengths as
 -- sixteen rows of thirty-two, oldest first"; E1: "Keep each flow's sum in the state". The line, which calls move
@@ -76,13 +77,17 @@ bytesOf (length ∷ more) = length + bytesOf more
 abbrev pub bytesWaiting : Line → ℕ → ℕ
 bytesWaiting l f = bytesOf (lengthsIn l f)
 
--- "A packet's charge is its length in bytes as the arrival gives it."
-abbrev pub charge : ℕ → ℕ
-charge length = length
+-- E2: "charge becomes length plus overhead"
+abbrev pub charge : Table → ℕ → ℕ
+charge T length = length + T .overhead
 
 -- what flow f's oldest packet is charged
-abbrev pub oldestCharge : Line → ℕ → ℕ
-oldestCharge l f = charge (oldest l f)
+abbrev pub oldestCharge : Table → Line → ℕ → ℕ
+oldestCharge T l f = charge T (oldest l f)
+
+-- the most that a packet of flow f is charged: "each l raised by the overhead"
+abbrev pub maximumCharge : Table → ℕ → ℕ
+maximumCharge T f = charge T (maximumOf T f)
 
 -- ---- writing: every change of a line is made of these three
 abbrev pub withDeficit : Line → ℕ → ℕ → Line
@@ -121,7 +126,7 @@ freshLine n =
     }
 
 abbrev pub noFlows : Table
-noFlows = tableOf (common 0) (replicate 16 0) (replicate 16 0)
+noFlows = tableOf (common 0 0) (replicate 16 0) (replicate 16 0)
 
 -- ---- the State of the code: its rows as lists, and back. The public State has sixteen row structs, the engine an array of arrays;
 -- both are a list of lists here.

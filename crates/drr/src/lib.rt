@@ -4,7 +4,7 @@ ghost use mathlib.Core.Path.{_≡_};
 ghost use Rattle.drr.specs.Answers.{numberOf};
 ghost use Rattle.drr.specs.State.{commonIn};
 
-// Document 01's table of least and most (specs/Limits.antt).
+// Document 01's table of least and most, and what requests add to it (specs/Limits.antt).
 pub const MOST_FLOWS: usize = 16;
 
 pub const LEAST_QUANTUM: u32 = 1;
@@ -14,6 +14,8 @@ pub const MOST_QUANTUM: u32 = 65535;
 pub const LEAST_MAXIMUM: u32 = 1;
 
 pub const MOST_MAXIMUM: u32 = 9216;
+
+pub const MOST_OVERHEAD: u32 = 64;
 
 pub const MOST_WAITING: u8 = 32;
 
@@ -34,19 +36,23 @@ pub struct FlowList {
     pub count: usize,
 }
 
-// What setup is told beside the list: nothing in document 01. A number of the whole table that a request
-// brings is a field here, and no signature and no proof by hand changes for it.
-pub struct Terms {}
+// What setup is told beside the list: the bytes that the line spends on each packet beside its own.
+#[repr(C)]
+pub struct Terms {
+    pub overhead: u32,
+}
 
 // The numbers of a table that are no flow's own, as the inner functions take them.
 pub struct Common {
     pub n: usize,
+    pub overhead: u32,
 }
 
-// What setup fixes: the number of flows, and each flow's quantum and maximum.
+// What setup fixes: the number of flows, the overhead per packet, and each flow's quantum and maximum.
 #[repr(C)]
 pub struct Table {
     pub n: usize,
+    pub overhead: u32,
     pub quanta: [u32; 16],
     pub maxima: [u32; 16],
 }
@@ -68,7 +74,7 @@ pub struct Line {
     pub rows: [Row; 16],
 }
 
-// All that a call is given and hands back: the terms, and what moves.
+// All that a call is given and hands back: the table, and what moves.
 #[repr(C)]
 pub struct State {
     pub table: Table,
@@ -98,7 +104,7 @@ pub enum Refusal {
     MaximumRange,
     NotSound,
     FileLength,
-    Reserved,
+    OverheadRange,
     EventCount,
     TablePlace,
     TickOrder,
@@ -159,7 +165,10 @@ pub struct ArrivedLine {
 pub fn common_of(table: Table) -> Common
     ensures { λ r. ⌜ r ≡ commonIn table ⌝ }
 {
-    Common { n: table.n }
+    Common {
+        n: table.n,
+        overhead: table.overhead,
+    }
 }
 
 // Document 01's number of a refusal.
@@ -176,7 +185,7 @@ pub fn refusal_number(r: Refusal) -> u32
         Refusal::MaximumRange => 7,
         Refusal::NotSound => 8,
         Refusal::FileLength => 9,
-        Refusal::Reserved => 10,
+        Refusal::OverheadRange => 10,
         Refusal::EventCount => 11,
         Refusal::TablePlace => 12,
         Refusal::TickOrder => 13,

@@ -1,8 +1,9 @@
 // Reads a run file from standard input and prints a line for each flow of its table: flow, quantum,
 // maximum, C, wait, and owed of each number of bytes that is given as an argument, of 1,000,000 if none
-// is. For a file that is refused it prints the line of its refusal (answers::figures_text).
+// is; before them all the line of the table's overhead, if that is not 0. For a file that is refused it
+// prints the line of its refusal (answers::figures_text).
 //
-// Options stand among the numbers, in any order: --header for a line of titles before the others, --csv
+// Options stand among the numbers, in any order: --header for a line of titles before the flows', --csv
 // for commas in place of the spaces, --rate BITS for the wait in seconds, as the last field, on a line of
 // so many bits a second. With a wrong argument it says what is wrong, and prints nothing.
 use answers::Dress;
@@ -249,7 +250,7 @@ fn main() {
     let sizes = asked.sizes;
     let count = asked.count;
     let dress = asked.dress;
-    let mut text = [0u8; 11220];
+    let mut text = [0u8; 11250];
     let size = answers::figures_text(&file[..n], &sizes[..count], dress, &mut text);
     io::write_all(1, &text[..size]);
 }

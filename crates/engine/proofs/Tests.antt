@@ -1,18 +1,20 @@
 -- The soundness test put together from its parts, as the code takes them.
-use Prim.Native.Nat.{ℕ, _+_, _<_}
+use Prim.Native.Nat.{ℕ, _+_, _≤_, _<_}
 use mathlib.Core.Path.{_≡_, sym, _∙_}
 use mathlib.Core.List.{List}
 use mathlib.Core.Bool.{Bool, true, false, _&&_, and-false}
 use native.Mathlib.Omega.{arith}
-use borrow.Author.Tests.{eq-eqb, ne-eqb}
-use lib.Dec.{ltb}
+use borrow.Author.Tests.{eq-eqb, ne-eqb, leb-true}
+use lib.Dec.{ltb, leb}
 use lib.ListN.{getD, take}
+use Rattle.drr.specs.declared.Common.{Common}
+use Rattle.drr.specs.declared.Spot.{Spot}
 use Rattle.drr.specs.declared.Table.{Table}
-use Rattle.drr.specs.Limits.{mostFlows, mostWaiting}
-use Rattle.drr.specs.State.{Line, quantumOf, maximumOf, deficitOf, waitingOf, sumOf, rowOf, oldest, bytesOf}
-use Rattle.drr.specs.State.{bytesWaiting}
+use Rattle.drr.specs.Limits.{mostFlows, mostOverhead, mostWaiting}
+use Rattle.drr.specs.State.{Line, quantumOf, maximumOf, deficitOf, waitingOf, sumOf, rowOf, oldestCharge, bytesOf}
+use Rattle.drr.specs.State.{bytesWaiting, commonIn, spotAt}
 use Rattle.drr.specs.Sound.{all, headb, numbersb, visited, cellsb, flowb, soundb}
-use Rattle.drr.proofs.Bools.{all-fault}
+use Rattle.drr.proofs.Bools.{and-left, and-right, all-fault}
 use Rattle.drr.proofs.Facts.{row-bytes}
 use Rattle.drr.proofs.Lengths.{bytes-next}
 
@@ -21,21 +23,27 @@ pub bytes-on : (row : List ℕ) (k : ℕ) {bytes next : ℕ} → bytes ≡ bytes
     next ≡ bytesOf (take (k + 1) row)
 bytes-on row k so-far more = omega (arith, so-far, more, bytes-next row k)
 
+-- past the head the overhead is in range
+pub head-overhead : (c : Common) (spot : Spot) → headb c spot ≡ true → c .overhead ≤ mostOverhead
+head-overhead c spot h =
+    let ranges = and-left (leb (c .n) mostFlows && leb (c .overhead) mostOverhead) _ h in
+    leb-true (c .overhead) mostOverhead (and-right (leb (c .n) mostFlows) (leb (c .overhead) mostOverhead) ranges)
+
 module _ (T : Table) (l : Line) where
   -- the numbers of flow f
-  abbrev numbersOf : ℕ → Bool
+  abbrev pub numbersOf : ℕ → Bool
   numbersOf f =
-      numbersb (ltb f (T .n)) (visited l f) (quantumOf T f) (maximumOf T f) (deficitOf l f) (waitingOf l f) (oldest l f)
+      numbersb (ltb f (T .n)) (visited l f) (quantumOf T f) (maximumOf T f) (deficitOf l f) (waitingOf l f) (oldestCharge T l f)
 
-  pub head-fault : headb (T .n) (l .place) (l .opened) ≡ false → false ≡ soundb T l
+  pub head-fault : headb (commonIn T) (spotAt (l .place) (l .opened)) ≡ false → false ≡ soundb T l
   unfolding soundb
   head-fault h = sym (rw h)
 
   pub flow-fault : (f : ℕ) → f < mostFlows → flowb T l f ≡ false → false ≡ soundb T l
   unfolding soundb
-  flow-fault f low e = sym (rw (all-fault mostFlows f (flowb T l) low e) (and-false (headb (T .n) (l .place) (l .opened))))
+  flow-fault f low e = sym (rw (all-fault mostFlows f (flowb T l) low e) (and-false (headb (commonIn T) (spotAt (l .place) (l .opened)))))
 
-  pub no-fault : headb (T .n) (l .place) (l .opened) ≡ true → all mostFlows (flowb T l) ≡ true → true ≡ soundb T l
+  pub no-fault : headb (commonIn T) (spotAt (l .place) (l .opened)) ≡ true → all mostFlows (flowb T l) ≡ true → true ≡ soundb T l
   unfolding soundb
   no-fault h a = sym (rw h a)
 

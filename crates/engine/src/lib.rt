@@ -13,7 +13,7 @@ use drr::Spot;
 ghost use mathlib.Core.Path.{_≡_};
 ghost use mathlib.Core.Bool.{true, false};
 ghost use Prim.Native.Nat.{_+_, _-_, _≤_, _<_};
-ghost use Rattle.drr.specs.Limits.{mostFlows};
+ghost use Rattle.drr.specs.Limits.{mostFlows, mostOverhead};
 ghost use Rattle.drr.specs.State.{tableOf, lineOf, spotAt, charge, shiftedOf};
 ghost use Rattle.drr.specs.Sound.{headb, numbersb, cellb, soundb};
 ghost use Rattle.drr.specs.Facts.{Sound};
@@ -21,7 +21,7 @@ ghost use Rattle.drr.specs.Answers.{pickPaper, arrivalPaper, outcome};
 ghost use Rattle.drr.specs.Arrival.{Booked};
 ghost use Rattle.drr.specs.Pick.{after, firstOf};
 ghost use Rattle.drr.specs.Computed.{sending, look as lookOf, pickOf};
-ghost use Rattle.engine.specs.Needs.{Bookable, Sendable};
+ghost use Rattle.engine.specs.Needs.{bare, Bookable, Sendable};
 
 // What a pick answers, and where it leaves the visit.
 pub struct Picking {
@@ -29,11 +29,12 @@ pub struct Picking {
     pub spot: Spot,
 }
 
-// What a packet of this length is charged.
-fn charge_of(length: u16) -> u32
-    ensures { λ r. ⌜ r ≡ charge length ⌝ }
+// What a packet of this length is charged. Public for a run, whose line is busy for as many ticks.
+pub fn charge_of(common: Common, length: u16) -> u32
+    requires { ⌜ common .overhead ≤ mostOverhead ⌝ }
+    ensures { λ r. ⌜ r ≡ charge (bare common) length ⌝ }
 {
-    length as u32
+    length as u32 + common.overhead
 }
 
 // The flow after f, round a table of n.
@@ -78,6 +79,7 @@ fn shifted(row: [u16; 32]) -> [u16; 32]
 
 // The oldest packet of flow f is sent, in its open visit.
 fn send(
+    common: Common,
     counts: &mut [u8; 16],
     sums: &mut [u32; 16],
     deficits: &mut [u32; 16],
@@ -85,16 +87,16 @@ fn send(
     f: usize,
     visits: u32,
 ) -> Picking
-    requires { ⌜ Sendable (lineOf (now counts) (now sums) (now deficits) (now rows) (spotAt f true)) f ⌝ }
+    requires { ⌜ Sendable (bare common) (lineOf (now counts) (now sums) (now deficits) (now rows) (spotAt f true)) f ⌝ }
     ensures { λ r. ⌜
         outcome (pickPaper (r .answer))
         (lineOf (now (counts .exit)) (now (sums .exit)) (now (deficits .exit)) (now (rows .exit)) (r .spot))
-        ≡ sending
+        ≡ sending (bare common)
         (lineOf (now (counts .entry)) (now (sums .entry)) (now (deficits .entry)) (now (rows .entry)) (spotAt f true)) f visits ⌝ }
 {
     let row = rows[f];
     let length = row[0];
-    let d = deficits[f] - charge_of(length);
+    let d = deficits[f] - charge_of(common, length);
     deficits[f] = d;
     counts[f] = counts[f] - 1;
     sums[f] = sums[f] - length as u32;
@@ -145,12 +147,12 @@ fn look(
             };
         };
         visits += 1;
-        let charge = charge_of(rows[f][0]);
+        let charge = charge_of(common, rows[f][0]);
         let d = deficits[f] + quanta[f];
         deficits[f] = d;
         place = f;
         if charge <= d {
-            return send(counts, sums, deficits, rows, f, visits);
+            return send(common, counts, sums, deficits, rows, f, visits);
         }
     }
 }
@@ -176,8 +178,8 @@ pub fn pick_in(
     let f = spot.place;
     if spot.opened {
         if 0 < counts[f] {
-            if charge_of(rows[f][0]) <= deficits[f] {
-                return send(counts, sums, deficits, rows, f, 0);
+            if charge_of(common, rows[f][0]) <= deficits[f] {
+                return send(common, counts, sums, deficits, rows, f, 0);
             }
         } else {
             deficits[f] = 0;
@@ -221,14 +223,18 @@ pub fn book(
     ArrivalAnswer::Accepted
 }
 
-// n is 0 to 16; the place is below n, or 0 and closed if n is 0.
-fn head_ok(n: usize, place: usize, opened: bool) -> bool
-    ensures { λ r. ⌜ r ≡ headb n place opened ⌝ }
+// n is 0 to 16, the overhead 0 to 64; the place is below n, or 0 and closed if n is 0, and the overhead 0.
+fn head_ok(common: Common, spot: Spot) -> bool
+    ensures { λ r. ⌜ r ≡ headb common spot ⌝ }
 {
-    (n <= drr::MOST_FLOWS) & ((place < n) | ((n == 0) & (place == 0) & !opened))
+    let n = common.n;
+    let overhead = common.overhead;
+    let place = spot.place;
+    ((n <= drr::MOST_FLOWS) & (overhead <= drr::MOST_OVERHEAD))
+        & ((place < n) | ((n == 0) & (overhead == 0) & (place == 0) & !spot.opened))
 }
 
-// The numbers of one flow, in use or not.
+// The numbers of one flow, in use or not; `cost` is what its oldest packet is charged.
 fn numbers_ok(
     used: bool,
     visited: bool,
@@ -236,16 +242,16 @@ fn numbers_ok(
     maximum: u32,
     deficit: u32,
     count: u8,
-    oldest: u16,
+    cost: u32,
 ) -> bool
-    ensures { λ r. ⌜ r ≡ numbersb used visited quantum maximum deficit count oldest ⌝ }
+    ensures { λ r. ⌜ r ≡ numbersb used visited quantum maximum deficit count cost ⌝ }
 {
     let range = ((drr::LEAST_QUANTUM <= quantum) & (quantum <= drr::MOST_QUANTUM))
         & ((drr::LEAST_MAXIMUM <= maximum) & (maximum <= drr::MOST_MAXIMUM))
         & (count <= drr::MOST_WAITING);
     let empty = count == 0;
     let credit = (visited & (deficit < quantum))
-        | (!visited & ((empty & (deficit == 0)) | (!empty & (deficit < charge_of(oldest)))));
+        | (!visited & ((empty & (deficit == 0)) | (!empty & (deficit < cost))));
     let zero = (quantum == 0) & (maximum == 0) & (deficit == 0) & (count == 0);
     (used & (range & credit)) | (!used & zero)
 }
@@ -285,7 +291,7 @@ pub fn sound_in(
     let n = common.n;
     let place = spot.place;
     let opened = spot.opened;
-    if !head_ok(n, place, opened) {
+    if !head_ok(common, spot) {
         return false;
     }
     let mut ok = true;
@@ -300,7 +306,7 @@ pub fn sound_in(
             maximum,
             deficits[f],
             count,
-            rows[f][0],
+            charge_of(common, rows[f][0]),
         ) {
             ok = false;
             break 'flows;

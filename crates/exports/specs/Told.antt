@@ -1,7 +1,7 @@
 -- How an answer crosses to another language: as a struct with a name for each number of document 01's answer.
 use Prim.Native.Nat.{ℕ}
 use lib.ListN.{getD}
-use Rattle.drr.specs.Answers.{Answer, flowIn, lengthIn, Reply}
+use Rattle.drr.specs.Answers.{Answer, flowIn, lengthIn, visitsIn, Reply}
 use Rattle.exports.specs.declared.SetupResult.{SetupResult}
 use Rattle.exports.specs.declared.ArrivalResult.{ArrivalResult}
 use Rattle.exports.specs.declared.PickResult.{PickResult}
@@ -34,7 +34,7 @@ pickTold r =
       flow = flowIn (r .answer);
       length = lengthIn (r .answer);
       deficit = getD (r .answer .numbers) 2 0;
-      visits = getD (r .answer .numbers) 3 0;
+      visits = visitsIn (r .answer);
       state = r .state;
     }
 

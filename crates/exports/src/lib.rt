@@ -141,12 +141,12 @@ fn figure_told(a: Figure) -> FigureResult
     }
 }
 
-// Setup of the first `count` records of the list, or of all seventeen.
+// Setup of the first `count` records of the list, or of all seventeen, and the terms.
 #[no_mangle]
-pub extern "C" fn wikulambag_setup(list: FlowList) -> SetupResult
-    ensures { λ r. ⌜ r ≡ setupTold (setupReply (recordsIn list)) ⌝ }
+pub extern "C" fn wikulambag_setup(list: FlowList, terms: Terms) -> SetupResult
+    ensures { λ r. ⌜ r ≡ setupTold (setupReply (recordsIn list) terms) ⌝ }
 {
-    let made = scheduler::flows::setup_of(list, Terms {});
+    let made = scheduler::flows::setup_of(list, terms);
     let answer = made.answer;
     let state = made.state;
     let fault = result_of(answer);

@@ -9,6 +9,7 @@ use borrow.Author.Tests.{lt-leb}
 use lib.Dec.{eqb}
 use lib.ListN.{getD}
 use Rattle.drr.specs.declared.FlowRecord.{FlowRecord}
+use Rattle.drr.specs.declared.Terms.{Terms}
 use Rattle.drr.specs.declared.Table.{Table}
 use Rattle.drr.specs.declared.State.{State}
 use Rattle.drr.specs.State.{lineIn}
@@ -43,13 +44,13 @@ unfolding askedAnswer
 asked-fine s ok flow low figure = rw (of-sound (s .table) (lineIn (s .line)) ok, lt-leb (s .table .n) flow low)
 
 -- what is answered over calls from fresh: the bytes accepted less those sent, as the calls and their answers say them
-pub waiting-told : (xs : List FlowRecord) → setupReply xs .answer .refusal ≡ 0 → (cs : List Call) (i : ℕ) →
-    let s = setupReply xs .state in
+pub waiting-told : (xs : List FlowRecord) (terms : Terms) → setupReply xs terms .answer .refusal ≡ 0 → (cs : List Call) (i : ℕ) →
+    let s = setupReply xs terms .state in
     i < s .table .n →
     waitingAnswer (afterCalls s cs) i
     ≡ figureIs (bytesAccepted (justFlow i) cs (answersTo s cs) - bytesGiven (justFlow i) (answersTo s cs))
-waiting-told xs fine cs i low =
-    let s = setupReply xs .state in
-    let k = calls-sound s (setup-keeps xs) cs in
+waiting-told xs terms fine cs i low =
+    let s = setupReply xs terms .state in
+    let k = calls-sound s (setup-keeps xs terms) cs in
     asked-fine (afterCalls s cs) (k .0) i (subst⁻¹ (λ (T : Table). i < T .n) (k .1) low) _
-    ∙ ap figureIs (omega (arith, fresh-account xs fine cs i low))
+    ∙ ap figureIs (omega (arith, fresh-account xs terms fine cs i low))

@@ -8,11 +8,11 @@ use lib.Dec.{leb}
 use Rattle.drr.specs.declared.Refusal.{Refusal}
 use Rattle.drr.specs.declared.Table.{Table}
 use Rattle.drr.specs.declared.State.{State}
-use Rattle.drr.specs.Limits.{mostQuantum, mostMaximum, mostQuanta, mostMaxima}
-use Rattle.drr.specs.State.{quantumOf, maximumOf}
+use Rattle.drr.specs.Limits.{mostFlows, mostQuantum, mostMaximum, mostCharge, mostQuanta, mostCharges}
+use Rattle.drr.specs.State.{quantumOf, maximumOf, maximumCharge}
 use Rattle.drr.specs.Answers.{Answer, numberOf}
-use Rattle.drr.specs.Figures.{allQuanta, allMaxima, lag, Least, owed, wait}
-use Rattle.drr.proofs.Sums.{total-at, total-most}
+use Rattle.drr.specs.Figures.{total, allQuanta, allCharges, lag, Least, owed, wait}
+use Rattle.drr.proofs.Sums.{total-at, total-most, total-add, total-each}
 use Rattle.drr.proofs.Figures.{quanta-some, owed-formula, wait-formula, least-one, least-of, least-from, one-beyond}
 use Rattle.figures.specs.declared.Guard.{Guard}
 use Rattle.figures.specs.declared.Guard.the-variants.{Passed, Refused}
@@ -22,13 +22,13 @@ use Rattle.figures.specs.Needs.{Known, measuresOf, Limited, mostWait, la
 use Rattle.figures.specs.Time.{slowest, waitTime}
 
 -- C is below Q × mostWait, with a for L - l and g for F - Q
-lag-low : (Q l a g : ℕ) → 1 ≤ Q → l ≤ mostMaximum → a ≤ mostMaxima → g ≤ mostQuanta → Q * a + g * (Q + l) < Q * mostWait
+lag-low : (Q l a g : ℕ) → 1 ≤ Q → l ≤ mostCharge → a ≤ mostCharges → g ≤ mostQuanta → Q * a + g * (Q + l) < Q * mostWait
 lag-low Q l a g some lm am gm =
-    let wide : Q + l ≤ Q * (1 + mostMaximum) = omega arith in
+    let wide : Q + l ≤ Q * (1 + mostCharge) = omega arith in
     omega (arith, mul-le-mul-left Q am, mul-le-mul gm wide)
 
 abbrev measures : ℕ → ℕ → ℕ → ℕ → Measures
-measures Q l F L = record { quantum = Q; maximum = l; quanta = F; maxima = L }
+measures Q l F L = record { quantum = Q; charge = l; quanta = F; charges = L }
 
 module _ {T : Table} {i : ℕ} (k : Known T i) where
   limited : Limited (measuresOf T i)
@@ -38,18 +38,31 @@ module _ {T : Table} {i : ℕ} (k : Known T i) where
       record {
         quantum-least = r .quantum-in i low .0;
         quantum-most = r .quantum-in i low .1;
-        maximum-most = r .maximum-in i low .1;
+        charge-most = charge-low i low;
         quantum-in = total-at (T .n) (quantumOf T) i low;
-        maximum-in = total-at (T .n) (maximumOf T) i low;
+        charge-in = total-at (T .n) (maximumCharge T) i low;
         quanta-most = omega (arith, r .flows-few, total-most (T .n) (quantumOf T) mostQuantum (λ f h. r .quantum-in f h .1));
-        maxima-most = omega (arith, r .flows-few, total-most (T .n) (maximumOf T) mostMaximum (λ f h. r .maximum-in f h .1));
+        charges-most = omega (arith, r .flows-few, total-most (T .n) (maximumCharge T) mostCharge charge-low);
       }
+    where
+      charge-low : (f : ℕ) → f < T .n → maximumCharge T f ≤ mostCharge
+      charge-low f h = omega (arith, k .ranged .maximum-in f h .1, k .ranged .overhead-in)
+
+  -- what the code adds up: the sums of the maxima, and of as many overheads
+  pub maxima-low : total (T .n) (maximumOf T) ≤ mostFlows * mostMaximum
+  maxima-low =
+      let r = k .ranged in
+      omega (arith, r .flows-few, total-most (T .n) (maximumOf T) mostMaximum (λ f h. r .maximum-in f h .1))
 
   -- the measures as the code reads them of the table
-  pub read-measures : {Q l F L : ℕ} → Q ≡ quantumOf T i → l ≡ maximumOf T i → F ≡ allQuanta T → L ≡ allMaxima T →
-      (measures Q l F L ≡ measuresOf T i) × Limited (measures Q l F L)
-  read-measures {Q} {l} {F} {L} q m f e =
-      let same : measures Q l F L ≡ measuresOf T i = λ j. measures (q j) (m j) (f j) (e j) in
+  pub read-measures : {Q l F L N o : ℕ} → o ≡ T .overhead → Q ≡ quantumOf T i → l ≡ maximumOf T i → F ≡ allQuanta T →
+      L ≡ total (T .n) (maximumOf T) → N ≡ T .n →
+      (measures Q (l + o) F (L + N * o) ≡ measuresOf T i) × Limited (measures Q (l + o) F (L + N * o))
+  read-measures {Q} {l} {F} {L} {N} {o} h q m f e n =
+      let each = total-add (T .n) (maximumOf T) (λ _. T .overhead)
+      ∙ ap (λ (x : ℕ). total (T .n) (maximumOf T) + x) (total-each (T .n) (T .overhead)) in
+      let all : L + N * o ≡ allCharges T = rw (e, n, h) (sym each) in
+      let same : measures Q (l + o) F (L + N * o) ≡ measuresOf T i = λ j. measures (q j) (m j + h j) (f j) (all j) in
       (same, subst⁻¹ Limited same limited)
 
   some : 0 < allQuanta T
@@ -85,8 +98,8 @@ module _ {T : Table} {i : ℕ} (k : Known T i) where
       let m = limited k in
       let pos = m .quantum-least in
       let low : lag T i < quantumOf T i * mostWait =
-      lag-low (quantumOf T i) (maximumOf T i) (allMaxima T - maximumOf T i) (allQuanta T - quantumOf T i) pos (m .maximum-most)
-      (omega (arith, m .maxima-most)) (omega (arith, m .quanta-most)) in
+      lag-low (quantumOf T i) (maximumCharge T i) (allCharges T - maximumCharge T i) (allQuanta T - quantumOf T i) pos (m .charge-most)
+      (omega (arith, m .charges-most)) (omega (arith, m .quanta-most)) in
       let fits : lag T i / quantumOf T i < mostWait = div-lt-iff-lt-mul pos .1 (omega (arith, low)) in
       (omega (arith, wait-formula T i (some k) pos), omega (arith, wait-formula T i (some k) pos, fits))
 

@@ -1,9 +1,10 @@
--- Document 01's P1 to P12, "Marked P, to be proved", as one table, and what it is that an entry holds.
+-- Document 01's P1 to P12, "Marked P, to be proved", as one table, E2's two figures as another, and what it is that an entry holds.
 use mathlib.Core.Path.{_≡_}
 use mathlib.Core.List.{List, [], _∷_}
 use Prim.Native.Nat.{ℕ}
 use Rattle.drr.specs.declared.FlowRecord.{FlowRecord}
 use Rattle.drr.specs.declared.Table.{Table}
+use Rattle.drr.specs.declared.Terms.{Terms}
 use Rattle.drr.specs.State.{freshState}
 use Rattle.drr.specs.Answers.{idle, reply}
 use Rattle.drr.specs.Computed.{pickReply}
@@ -42,16 +43,17 @@ pub data Vector : Type 0 where
   both : Vector → Vector → Vector
   freshPick : List FlowRecord → Vector
 
-abbrev pub Holds : Vector → Type 0
-Holds (figure flows i which value) = figureOf (tableFor flows) i which ≡ value
-Holds (both a b) = Holds a × Holds b
-Holds (freshPick flows) = pickReply (freshState (tableFor flows)) ≡ reply idle (freshState (tableFor flows))
+-- it holds of the tables with these terms
+abbrev pub Holds : Terms → Vector → Type 0
+Holds terms (figure flows i which value) = figureOf (tableFor flows terms) i which ≡ value
+Holds terms (both a b) = Holds terms a × Holds terms b
+Holds terms (freshPick flows) = pickReply (freshState (tableFor flows terms)) ≡ reply idle (freshState (tableFor flows terms))
 
-abbrev pub Every : List Vector → Type 0
-Every [] = Unit {0}
-Every (x ∷ xs) = Holds x × Every xs
+abbrev pub Every : Terms → List Vector → Type 0
+Every terms [] = Unit {0}
+Every terms (x ∷ xs) = Holds terms x × Every terms xs
 
--- ---- the table
+-- ---- document 01's table, where the overhead is 0
 abbrev pub marked : List Vector
 marked =
     -- P1 to P3, this table's C
@@ -73,3 +75,7 @@ marked =
     -- P12, a pick from the fresh empty-queued state: idle, same state
     ∷ freshPick worked
     ∷ []
+
+-- ---- E2's: "With 20, document 01's flow 0 has a C of 1,644,000 and waits 3289."
+abbrev pub raised : List Vector
+raised = figure worked 0 itsC 1644000 ∷ figure worked 0 itsWait 3289 ∷ []

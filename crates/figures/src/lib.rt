@@ -35,12 +35,12 @@ enum Guard {
     Refused(Refusal),
 }
 
-// What the figures are made of: the flow's quantum and maximum, and the sums of all quanta and maxima.
+// What the figures are made of: the flow's quantum and maximum charge, and the sums of all of them.
 struct Measures {
     quantum: u64,
-    maximum: u64,
+    charge: u64,
     quanta: u64,
-    maxima: u64,
+    charges: u64,
 }
 
 // x × y, far below 64 bits.
@@ -67,7 +67,7 @@ fn rounded_up(x: u64, by: u64) -> u64
     (x + (by - 1)) / by
 }
 
-// The sum of the first n cells: of all quanta it is F, of all maxima L.
+// The sum of the first n cells: of all quanta it is F, of all maxima L without the overheads.
 fn sum_of(cells: [u32; 16], n: usize) -> u64
     requires { ⌜ n ≤ mostFlows ⌝ }
     ensures { λ r. ⌜ r ≡ total n (λ f. getD cells f 0) ⌝ }
@@ -86,22 +86,23 @@ fn measures_of(table: Table, flow: usize) -> Measures
     ensures { λ r. ⌜ (r ≡ measuresOf table flow) × Limited r ⌝ }
 {
     let n = table.n;
+    let overhead = widths::u64_of_u32(table.overhead);
     let quanta = table.quanta;
     let maxima = table.maxima;
     Measures {
         quantum: widths::u64_of_u32(quanta[flow]),
-        maximum: widths::u64_of_u32(maxima[flow]),
+        charge: widths::u64_of_u32(maxima[flow]) + overhead,
         quanta: sum_of(quanta, n),
-        maxima: sum_of(maxima, n),
+        charges: sum_of(maxima, n) + widths::u64_of_usize(n) * overhead,
     }
 }
 
-// C = Q × (L - l) + (F - Q) × (Q + l).
+// C = Q × (L - l) + (F - Q) × (Q + l), with each l raised by the overhead.
 fn lag_from(t: Measures) -> u64
     requires { ⌜ Limited t ⌝ }
     ensures { λ r. ⌜ (r ≡ lagFrom t) × (r ≤ 9007199254740992) ⌝ }
 {
-    times(t.quantum, t.maxima - t.maximum) + times(t.quanta - t.quantum, t.quantum + t.maximum)
+    times(t.quantum, t.charges - t.charge) + times(t.quanta - t.quantum, t.quantum + t.charge)
 }
 
 // C of a flow of the table.

@@ -18,7 +18,7 @@ use Rattle.drr.proofs.Calls.{fresh-state-sound}
 use Rattle.drr.proofs.Waiting.{fresh-waits}
 use Rattle.drr.proofs.Demand3.{calls-keep, demand-3}
 use Rattle.runfile.specs.declared.turns.Tally.{Tally}
-use Rattle.runfile.specs.File.{eventCount, eventOffset, flowsIn, eventsIn, fileAnswer, runAnswer}
+use Rattle.runfile.specs.File.{eventCount, eventOffset, flowsIn, termsIn, eventsIn, fileAnswer, runAnswer}
 use Rattle.runfile.specs.Run.{Act, free, Timed, bookedIn, callsIn, tableIn, runCalls}
 use Rattle.runfile.specs.Listing.{tally, tallyAfter, endLine, linesOf, ends, ticksOf, lastOf, acceptedTo, sentTo}
 use Rattle.runfile.specs.Listing.{runListing, runWaiting, filled, filledLines, filledBeside}
@@ -48,7 +48,7 @@ module _ (b : List ℕ) (ok : fileAnswer b .refusal ≡ 0) where
   fresh = freshLine (T .n)
 
   ranged : Ranged T
-  ranged = made-ranged (flowsIn b) (file-setup b ok)
+  ranged = made-ranged (flowsIn b) (termsIn b) (file-setup b ok)
 
   -- its calls are timed as document 01 says, they book every event in the file's order, and no other list of calls does both
   pub file-timed : Timed T 0 (free 0) (runCalls b) fresh

@@ -33,19 +33,19 @@ pub act-is-call : (T : Table) (l : Line) → Sound T l → (k : Act) →
 act-is-call T l ok k = reply-is T l ok (callIn k)
 
 -- the count after a packet sent at t
-abbrev sentOne : ℕ → Answer → Tally → Tally
-sentOne t a y = tally (y .sent + 1) (y .refused) (t + charge (lengthIn a))
+abbrev sentOne : Table → ℕ → Answer → Tally → Tally
+sentOne T t a y = tally (y .sent + 1) (y .refused) (t + charge T (lengthIn a))
 
 -- ---- one call: its line, the count after it, and the packets that wait
-pick-counts : (t : ℕ) (y : Tally) (l : Line) (a : Answer) (l' : Line) → PickedAs l a l' →
-    lines (afterPick t a y) + waitingAll l' ≡ lines y + waitingAll l
-pick-counts t y l a l' (idled e x z) = rw e (omega (arith, x, z))
-pick-counts t y l a l' (gave f len d v e less most) = rw e (omega (arith, less))
+pick-counts : (T : Table) (t : ℕ) (y : Tally) (l : Line) (a : Answer) (l' : Line) → PickedAs l a l' →
+    lines (afterPick T t a y) + waitingAll l' ≡ lines y + waitingAll l
+pick-counts T t y l a l' (idled e x z) = rw e (omega (arith, x, z))
+pick-counts T t y l a l' (gave f len d v e less most) = rw e (omega (arith, less))
 
-pick-line : (t : ℕ) (y : Tally) (l : Line) (a : Answer) (l' : Line) → PickedAs l a l' →
-    length (startLine t a) + 6 * lines y ≡ 6 * lines (afterPick t a y)
-pick-line t y l a l' (idled e x z) = rw e (omega arith)
-pick-line t y l a l' (gave f len d v e less most) = rw e (omega arith)
+pick-line : (T : Table) (t : ℕ) (y : Tally) (l : Line) (a : Answer) (l' : Line) → PickedAs l a l' →
+    length (startLine t a) + 6 * lines y ≡ 6 * lines (afterPick T t a y)
+pick-line T t y l a l' (idled e x z) = rw e (omega arith)
+pick-line T t y l a l' (gave f len d v e less most) = rw e (omega arith)
 
 -- .. and the number beside it
 event-beside : (v : List ℕ) → length v ≡ 6 → (n : ℕ) (b : Bool) → 6 * length (cond b [] (n ∷ [])) ≡ length (cond b [] v)
@@ -72,8 +72,8 @@ module _ (T : Table) where
   each-one (asks t ∷ ks) l y ok =
       omega (
         arith,
-        each-one ks (pickOf T l .line) (afterPick t (pickOf T l .answer) y) (pick-keeps T l ok),
-        pick-counts t y l (pickOf T l .answer) (pickOf T l .line) (pick-as T l ok),
+        each-one ks (pickOf T l .line) (afterPick T t (pickOf T l .answer) y) (pick-keeps T l ok),
+        pick-counts T t y l (pickOf T l .answer) (pickOf T l .line) (pick-as T l ok),
       )
 
   -- ---- the listing is the calls' lines and line 3, six numbers each
@@ -82,9 +82,9 @@ module _ (T : Table) where
   listing-is [] l y = refl
   listing-is (k ∷ ks) l y =
       ap (λ (xs : List ℕ). lineFor k (outcomeOf T l k .answer) ++ xs)
-      (listing-is ks (outcomeOf T l k .line) (afterAct k (outcomeOf T l k .answer) y))
+      (listing-is ks (outcomeOf T l k .line) (afterAct T k (outcomeOf T l k .answer) y))
       ∙ sym (append-assoc (lineFor k (outcomeOf T l k .answer)) (linesOf T ks (outcomeOf T l k .line))
-      (endLine (tallyAfter T ks (outcomeOf T l k .line) (afterAct k (outcomeOf T l k .answer) y))))
+      (endLine (tallyAfter T ks (outcomeOf T l k .line) (afterAct T k (outcomeOf T l k .answer) y))))
 
   pub lines-length : (ks : List Act) (l : Line) (y : Tally) → Sound T l →
       length (linesOf T ks l) + 6 * lines y ≡ 6 * lines (tallyAfter T ks l y)
@@ -98,8 +98,8 @@ module _ (T : Table) where
   lines-length (asks t ∷ ks) l y ok =
       simp length-append (omega (
         arith,
-        lines-length ks (pickOf T l .line) (afterPick t (pickOf T l .answer) y) (pick-keeps T l ok),
-        pick-line t y l (pickOf T l .answer) (pickOf T l .line) (pick-as T l ok),
+        lines-length ks (pickOf T l .line) (afterPick T t (pickOf T l .answer) y) (pick-keeps T l ok),
+        pick-line T t y l (pickOf T l .answer) (pickOf T l .line) (pick-as T l ok),
       ))
 
   -- ---- beside each of these lines there is one number
@@ -129,10 +129,10 @@ module _ (T : Table) where
       a = pickOf T l .answer
 
       go : (b : Bool) → ((z : Tally) → tallyAfter T ks (pickOf T l .line) z .sent ≡ z .sent + length (ends T ks (pickOf T l .line))) →
-          tallyAfter T ks (pickOf T l .line) (cond b (sentOne t a y) y) .sent
-          ≡ y .sent + length (cond b ((t + charge (lengthIn a)) ∷ []) [] ++ ends T ks (pickOf T l .line))
+          tallyAfter T ks (pickOf T l .line) (cond b (sentOne T t a y) y) .sent
+          ≡ y .sent + length (cond b ((t + charge T (lengthIn a)) ∷ []) [] ++ ends T ks (pickOf T l .line))
       go false on = on y
-      go true on = omega (arith, on (sentOne t a y))
+      go true on = omega (arith, on (sentOne T t a y))
 
   -- ---- .. and its tick: the end of the last packet sent ..
   past : (s a b : ℕ) → 0 < s → cond (eqb s 0) a b ≡ b
@@ -150,10 +150,10 @@ module _ (T : Table) where
 
       go : (b : Bool) →
           ((z : Tally) → 0 < z .sent → tallyAfter T ks (pickOf T l .line) z .last ≡ lastOf (z .last) (ends T ks (pickOf T l .line))) →
-          tallyAfter T ks (pickOf T l .line) (cond b (sentOne t a y) y) .last
-          ≡ lastOf (y .last) (cond b ((t + charge (lengthIn a)) ∷ []) [] ++ ends T ks (pickOf T l .line))
+          tallyAfter T ks (pickOf T l .line) (cond b (sentOne T t a y) y) .last
+          ≡ lastOf (y .last) (cond b ((t + charge T (lengthIn a)) ∷ []) [] ++ ends T ks (pickOf T l .line))
       go false on = on y some
-      go true on = on (sentOne t a y) (omega arith)
+      go true on = on (sentOne T t a y) (omega arith)
 
   -- .. or, where none was sent, the tick of the latest event
   pub last-is : (ks : List Act) (l : Line) (y : Tally) → y .sent ≡ 0 →
@@ -171,10 +171,10 @@ module _ (T : Table) where
       booked = lastOf (y .last) (ticksOf (bookedIn ks))
 
       go : (b : Bool) → tallyAfter T ks (pickOf T l .line) y .last ≡ lastOf booked (ends T ks (pickOf T l .line)) →
-          tallyAfter T ks (pickOf T l .line) (cond b (sentOne t a y) y) .last
-          ≡ lastOf booked (cond b ((t + charge (lengthIn a)) ∷ []) [] ++ ends T ks (pickOf T l .line))
+          tallyAfter T ks (pickOf T l .line) (cond b (sentOne T t a y) y) .last
+          ≡ lastOf booked (cond b ((t + charge T (lengthIn a)) ∷ []) [] ++ ends T ks (pickOf T l .line))
       go false on = on
-      go true on = sent-last ks (pickOf T l .line) (sentOne t a y) (omega arith)
+      go true on = sent-last ks (pickOf T l .line) (sentOne T t a y) (omega arith)
 
 -- ---- first in, first out: flow i's packets are sent in the order of its accepted events, each once
 module _ (T : Table) (i : ℕ) (i<n : i < T .n) where

@@ -12,7 +12,7 @@ use lib.Seq.{take-all}
 use Rattle.drr.specs.declared.FlowRecord.{FlowRecord}
 use Rattle.drr.specs.declared.Refusal.{Refusal}
 use Rattle.drr.specs.declared.Table.{Table}
-use Rattle.drr.specs.Limits.{mostFlows, mostEvents}
+use Rattle.drr.specs.Limits.{mostFlows, mostOverhead, mostEvents}
 use Rattle.drr.specs.State.{noFlows, freshState}
 use Rattle.drr.specs.Answers.{numberOf, Answer, fine, refusedAt, reply}
 use Rattle.drr.specs.Setup.{flowsAnswer, setupAnswer, setupTable, setupReply}
@@ -20,8 +20,8 @@ use Rattle.drr.proofs.Bools.{or-left, and-left, and-right, or-right}
 use Rattle.drr.proofs.Papers.{number-some}
 use Rattle.drr.proofs.Tables.{none}
 use Rattle.runfile.specs.declared.reader.Part.{Part}
-use Rattle.runfile.specs.File.{le4, headerSize, mostBytes, flowCount, eventCount, flowOffset, eventOffset, statedLength, reserved}
-use Rattle.runfile.specs.File.{noRecords, layoutIn, flowsFrom, Event, eventsFrom, flowsIn, eventsIn, tablesb, headerAnswer}
+use Rattle.runfile.specs.File.{le4, headerSize, mostBytes, flowCount, eventCount, flowOffset, eventOffset, statedLength, overheadIn}
+use Rattle.runfile.specs.File.{noRecords, layoutIn, flowsFrom, Event, eventsFrom, flowsIn, termsIn, eventsIn, tablesb, headerAnswer}
 use Rattle.runfile.specs.File.{headerLayout, ticksAnswer, Sorted, firstRefused, fileAnswer, fileTable, fileEvents, flowsReply, Laid}
 
 -- ---- the header
@@ -34,7 +34,7 @@ peel false k x e = (refl, e)
 pub record Passed (b : List ℕ) : Type 0 where
   pub size : (ltb (length b) headerSize || ltb mostBytes (length b)) ≡ false
   pub stated : not (eqb (statedLength b) (length b)) ≡ false
-  pub zeroed : not (eqb (reserved b) 0) ≡ false
+  pub overhead : ltb mostOverhead (overheadIn b) ≡ false
   pub flows : (eqb (flowCount b) 0 || ltb mostFlows (flowCount b)) ≡ false
   pub events : ltb mostEvents (eventCount b) ≡ false
   pub tables : not (tablesb (flowCount b) (eventCount b) (flowOffset b) (eventOffset b) (length b)) ≡ false
@@ -44,15 +44,15 @@ unfolding headerAnswer
 passed b e =
     let p1 = peel (ltb (length b) headerSize || ltb mostBytes (length b)) 8 _ e in
     let p2 = peel (not (eqb (statedLength b) (length b))) 8 _ (p1 .1) in
-    let p3 = peel (not (eqb (reserved b) 0)) 9 _ (p2 .1) in
+    let p3 = peel (ltb mostOverhead (overheadIn b)) 9 _ (p2 .1) in
     let p4 = peel (eqb (flowCount b) 0 || ltb mostFlows (flowCount b)) 4 _ (p3 .1) in
     let p5 = peel (ltb mostEvents (eventCount b)) 10 _ (p4 .1) in
     let p6 = peel (not (tablesb (flowCount b) (eventCount b) (flowOffset b) (eventOffset b) (length b))) 11 _ (p5 .1) in
-    record { size = p1 .0; stated = p2 .0; zeroed = p3 .0; flows = p4 .0; events = p5 .0; tables = p6 .0 }
+    record { size = p1 .0; stated = p2 .0; overhead = p3 .0; flows = p4 .0; events = p5 .0; tables = p6 .0 }
 
 pub header-fine : (b : List ℕ) → headerAnswer b .refusal ≡ 0 → headerAnswer b ≡ fine
 unfolding headerAnswer
-header-fine b e = let p = passed b e in rw (p .size, p .stated, p .zeroed, p .flows, p .events, p .tables)
+header-fine b e = let p = passed b e in rw (p .size, p .stated, p .overhead, p .flows, p .events, p .tables)
 
 -- tables that lie as they should lie inside the file
 inside : (n m fo eo size : ℕ) → tablesb n m fo eo size ≡ true → (fo + 8 * n ≤ size) × (eo + 8 * m ≤ size)
@@ -75,6 +75,7 @@ laid b e =
     record {
       long = ltb-false (length b) headerSize (or-left (ltb (length b) headerSize) (ltb mostBytes (length b)) (p .size));
       short = ltb-false mostBytes (length b) (or-right (ltb (length b) headerSize) (ltb mostBytes (length b)) (p .size));
+      overhead-most = ltb-false mostOverhead (overheadIn b) (p .overhead);
       flows-some = omega (arith, eqb-false n 0 (or-left (eqb n 0) (ltb mostFlows n) (p .flows)));
       flows-few = ltb-false mostFlows n (or-right (eqb n 0) (ltb mostFlows n) (p .flows));
       events-few = ltb-false mostEvents m (p .events);
@@ -104,14 +105,14 @@ pub flows-length : (t : List ℕ) (f c : ℕ) → length (flowsFrom t f c) ≡ c
 flows-length t f zero = refl
 flows-length t f (suc c) = ap suc (flows-length t (f + 1) c)
 
--- setup finds their number in range where the header has no fault, and so answers flow by flow
+-- setup finds the overhead and their number in range where the header has no fault, and so answers flow by flow
 module _ (b : List ℕ) (ok : headerAnswer b ≡ fine) where
   counted : (eqb (length (flowsIn b)) 0 || ltb mostFlows (length (flowsIn b))) ≡ false
   counted = rw (flows-length (drop (flowOffset b) b) 0 (flowCount b)) (passed b (ap (λ (a : Answer). a .refusal) ok) .flows)
 
-  pub judged : setupAnswer (flowsIn b) ≡ flowsAnswer 0 (flowsIn b)
+  pub judged : setupAnswer (flowsIn b) (termsIn b) ≡ flowsAnswer 0 (flowsIn b)
   unfolding setupAnswer
-  judged = rw counted
+  judged = rw (passed b (ap (λ (a : Answer). a .refusal) ok) .overhead, counted)
 
 -- ---- the events from i on, of c in all, where the tick before was `last`
 module _ (t : List ℕ) (c i last : ℕ) where
@@ -167,7 +168,7 @@ module _ (b : List ℕ) (e : fileAnswer b .refusal ≡ 0) where
   file-flows = parts .1 .0
 
   -- so setup accepts them, and what it makes is sound
-  pub file-setup : setupAnswer (flowsIn b) .refusal ≡ 0
+  pub file-setup : setupAnswer (flowsIn b) (termsIn b) .refusal ≡ 0
   file-setup = ap (λ (a : Answer). a .refusal) (judged b (header-fine b file-header)) ∙ file-flows
 
   pub file-ticks : ticksAnswer 0 0 (eventsIn b) .refusal ≡ 0
@@ -195,14 +196,14 @@ header-refused b why place e = gives-refused b why place (rw (← e, number-some
 
 -- past the header come setup's refusals, then that of the ticks
 module _ (b : List ℕ) (ok : headerAnswer b ≡ fine) where
-  pub flows-refused : (why : Refusal) (place : ℕ) → refusedAt (numberOf why) place ≡ setupAnswer (flowsIn b) →
+  pub flows-refused : (why : Refusal) (place : ℕ) → refusedAt (numberOf why) place ≡ setupAnswer (flowsIn b) (termsIn b) →
       Gives b (refusedAt (numberOf why) place) noFlows noRecords
   unfolding fileAnswer
   flows-refused why place e =
       let f = sym (e ∙ judged b ok) in
       gives-refused b why place (rw (ok, f, number-some why))
 
-  module _ (flows : fine ≡ setupAnswer (flowsIn b)) where
+  module _ (flows : fine ≡ setupAnswer (flowsIn b) (termsIn b)) where
     accepted : flowsAnswer 0 (flowsIn b) ≡ fine
     accepted = sym (flows ∙ judged b ok)
 
@@ -215,7 +216,7 @@ module _ (b : List ℕ) (ok : headerAnswer b ≡ fine) where
     unfolding fileAnswer
     file-fine e = rw (ok, accepted) e
 
-    pub all-fine : fine ≡ ticksAnswer 0 0 (eventsIn b) → Gives b fine (setupTable (flowsIn b)) (layoutIn b .events)
+    pub all-fine : fine ≡ ticksAnswer 0 0 (eventsIn b) → Gives b fine (setupTable (flowsIn b) (termsIn b)) (layoutIn b .events)
     unfolding fileTable fileEvents setupTable
     all-fine e = let is = file-fine e in record { answers = is; tables = rw (← is, ← flows); events = rw (← is) }
 
@@ -225,7 +226,7 @@ pub flows-none : (b : List ℕ) (why : Refusal) (place : ℕ) → refusedAt (num
 unfolding flowsReply
 flows-none b why place e = rw (← e, number-some why)
 
-pub flows-some : (b : List ℕ) → headerAnswer b ≡ fine → setupReply (flowsIn b) ≡ flowsReply b
+pub flows-some : (b : List ℕ) → headerAnswer b ≡ fine → setupReply (flowsIn b) (termsIn b) ≡ flowsReply b
 unfolding flowsReply
 flows-some b ok = rw ok
 

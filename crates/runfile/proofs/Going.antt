@@ -14,8 +14,8 @@ use lib.ListN.{length, drop, List·getD-eq-default}
 use Rattle.drr.specs.declared.Table.{Table}
 use Rattle.drr.specs.declared.PickAnswer.{PickAnswer}
 use Rattle.drr.specs.declared.PickAnswer.the-variants.{Idle, Sent, Refused}
-use Rattle.drr.specs.Limits.{mostFlows, mostMaximum, mostWaiting}
-use Rattle.drr.specs.State.{Line, waitingOf, bytesWaiting, maximumOf, freshLine}
+use Rattle.drr.specs.Limits.{mostFlows, mostMaximum, mostCharge, mostWaiting}
+use Rattle.drr.specs.State.{Line, waitingOf, bytesWaiting, maximumOf, charge, freshLine}
 use Rattle.drr.specs.Facts.{Sound, Ranged}
 use Rattle.drr.specs.Answers.{numberOf, Answer, idle, sentAs, lengthIn, pickPaper, Outcome, outcome}
 use Rattle.drr.specs.Arrival.{arrivalOf}
@@ -134,7 +134,7 @@ pub record Inside (T : Table) (t : List ℕ) (m : ℕ) (o₀ L b₀ W : List ℕ
   pub sound : Sound T l
   pub at-most : at ≤ m
   pub each-one : lines y + waitingAll l ≡ at
-  pub now-most : now ≤ 4294967296 + mostMaximum * y .sent
+  pub now-most : now ≤ 4294967296 + mostCharge * y .sent
   pub fuel : ℕ
   pub enough-fuel : 4 * (m - at) + 2 * waitingAll l + late t m now at ≤ fuel
   pub listed : Filling 6 o₀ L (lines y) (listing T (calls fuel T (free now) (left t m at) l) l y) o
@@ -319,25 +319,26 @@ module _ (H : Here) where
   module _ (later : Later t m now at) (a : Answer) (l' : Line) (e : outcome a l' ≡ pickOf T l) where
     asks-next : (k : ℕ) →
         calls (suc k) T (free now) (left t m at) l
-        ≡ asks now ∷ calls k T (onward now (pickOf T l .answer)) (left t m at) (pickOf T l .line)
+        ≡ asks now ∷ calls k T (onward T now (pickOf T l .answer)) (left t m at) (pickOf T l .line)
     unfolding calls
     asks-next k = ⊎-elim
         (λ more. rw (left-more t m at more) (rw (lt-leb (eventAt t at .tick) now (later more)) refl))
         (λ none. rw (left-none t m at none) refl)
         (below? at m)
 
-    step-picks : (k : ℕ) → ahead (suc k) ≡ startLine now a ++ listing T (calls k T (onward now a) (left t m at) l') l' (afterPick now a y)
+    step-picks : (k : ℕ) →
+        ahead (suc k) ≡ startLine now a ++ listing T (calls k T (onward T now a) (left t m at) l') l' (afterPick T now a y)
     unfolding listing
     step-picks k =
         ap (λ (ks : List Act). listing T ks l y) (asks-next k)
         ∙ ap (λ (z : Outcome). startLine now (z .answer)
-        ++ listing T (calls k T (onward now (z .answer)) (left t m at) (z .line)) (z .line) (afterPick now (z .answer) y)) (sym e)
+        ++ listing T (calls k T (onward T now (z .answer)) (left t m at) (z .line)) (z .line) (afterPick T now (z .answer) y)) (sym e)
 
-    step-asks : (k : ℕ) → aside (suc k) ≡ besideOf (asks now) a l' ++ besideAll T (calls k T (onward now a) (left t m at) l') l'
+    step-asks : (k : ℕ) → aside (suc k) ≡ besideOf (asks now) a l' ++ besideAll T (calls k T (onward T now a) (left t m at) l') l'
     step-asks k =
         ap (λ (ks : List Act). besideAll T ks l) (asks-next k)
         ∙ ap (λ (z : Outcome). besideOf (asks now) (z .answer) (z .line)
-        ++ besideAll T (calls k T (onward now (z .answer)) (left t m at) (z .line)) (z .line)) (sym e)
+        ++ besideAll T (calls k T (onward T now (z .answer)) (left t m at) (z .line)) (z .line)) (sym e)
 
     picked : PickedAs l a l'
     picked = subst (λ (z : Outcome). PickedAs l (z .answer) (z .line)) (sym e) (pick-as T l (h .sound))
@@ -348,7 +349,7 @@ module _ (H : Here) where
     some-fuel : (f : ℕ) → h .fuel ≡ f → 4 * (m - at) + 2 * waitingAll l + 1 ≤ f
     some-fuel f q = omega (arith, h .enough-fuel, late-is t m now at later)
 
-  -- it sends: a line, and the line is busy for as many ticks as the packet has bytes
+  -- it sends: a line, and the line is busy for as many ticks as the packet is charged
   module _ (later : Later t m now at) (f len d w : ℕ) (l' : Line) (e : outcome (sentAs f len d w) l' ≡ pickOf T l) where
     sent-is : (len ≤ mostMaximum) × (waitingAll l' + 1 ≡ waitingAll l)
     sent-is = by (picked later (sentAs f len d w) l' e)
@@ -366,7 +367,7 @@ module _ (H : Here) where
 
     pub inside-sends : (o' : List ℕ) → o' ≡ written 6 o (lines y) (1 ∷ now ∷ f ∷ len ∷ d ∷ w ∷ []) → (n : ℕ) →
         n ≡ atFlow (l' .sums) f → (b' : List ℕ) → b' ≡ written 1 b (lines y) (n ∷ []) →
-        On (now + len) at (tally (y .sent + 1) (y .refused) (now + len)) l' o' b'
+        On (now + charge T len) at (tally (y .sent + 1) (y .refused) (now + charge T len)) l' o' b'
     inside-sends o' is n is-n b' is-b = by (h .fuel) refl
       where
         a : Answer
@@ -381,23 +382,23 @@ module _ (H : Here) where
         u-is : b' ≡ written 1 b (lines y) (bytesWaiting l' f ∷ [])
         u-is = is-b ∙ ap (λ (x : ℕ). written 1 b (lines y) (x ∷ [])) (beside-is T l' (sound' later a l' e) f n is-n)
 
-        by : (fu : ℕ) → h .fuel ≡ fu → On (now + len) at (tally (y .sent + 1) (y .refused) (now + len)) l' o' b'
+        by : (fu : ℕ) → h .fuel ≡ fu → On (now + charge T len) at (tally (y .sent + 1) (y .refused) (now + charge T len)) l' o' b'
         by zero q = absurd (omega (arith, some-fuel later a l' e zero q))
         by (suc k) q = record {
           sound = sound' later a l' e;
           at-most = h .at-most;
           each-one = omega (arith, h .each-one, sent-is .1);
-          now-most = omega (arith, h .now-most, sent-most);
+          now-most = omega (arith, h .now-most, sent-most, h .sound .overhead-in);
           fuel = k;
-          enough-fuel = omega (arith, some-fuel later a l' e (suc k) q, sent-is .1, late-most t m (now + len) at);
+          enough-fuel = omega (arith, some-fuel later a l' e (suc k) q, sent-is .1, late-most t m (now + charge T len) at);
           listed = filling-more (h .listed) (1 ∷ now ∷ f ∷ len ∷ d ∷ w ∷ []) _ (ap ahead q ∙ step-picks later a l' e k) line-fits k'
               (next 6) o' is;
           besides = filling-more (h .besides) (bytesWaiting l' f ∷ []) _ (ap aside q ∙ step-asks later a l' e k) (beside-fits sent-before)
               k' (next 1) b' u-is;
         }
 
-    pub sends-less : ahead-at (now + len) at l' < ahead-at now at l
-    sends-less = omega (arith, sent-is .1, late-most t m (now + len) at)
+    pub sends-less : ahead-at (now + charge T len) at l' < ahead-at now at l
+    sends-less = omega (arith, sent-is .1, late-most t m (now + charge T len) at)
 
   -- it is idle
   module _ (later : Later t m now at) (l' : Line) (e : outcome idle l' ≡ pickOf T l) where
@@ -491,15 +492,15 @@ module _ (H : Here) where
     pub given-before : lines y < m
     given-before = sent-before later f len d w l' e″
 
-    module _ (size : ℕ) (is-size : size ≡ len) where
-      pub sends : (d' w' : ℕ) → d' ≡ d → w' ≡ w → (o' : List ℕ) → o' ≡ written 6 o (lines y) (1 ∷ now ∷ f ∷ size ∷ d' ∷ w' ∷ []) →
+    -- the tick at which the line falls free, as it was computed
+    module _ (end : ℕ) (is-end : end ≡ now + charge T len) where
+      pub sends : (o' : List ℕ) → o' ≡ written 6 o (lines y) (1 ∷ now ∷ f ∷ len ∷ d ∷ w ∷ []) →
           (n : ℕ) → n ≡ atFlow (l' .sums) f → (b' : List ℕ) → b' ≡ written 1 b (lines y) (n ∷ []) →
-          (z : Tally) → z ≡ tally (y .sent + 1) (y .refused) (now + size) → On (now + size) at z l' o' b'
-      sends d' w' is-d is-w o' is n is-n b' is-b z is-z =
-          rw (is-z, is-size) (inside-sends later f len d w l' e″ o' (rw (is-size, is-d, is-w) at is) n is-n b' is-b)
+          (z : Tally) → z ≡ tally (y .sent + 1) (y .refused) end → On end at z l' o' b'
+      sends o' is n is-n b' is-b z is-z = rw (is-z, is-end) (inside-sends later f len d w l' e″ o' is n is-n b' is-b)
 
-      pub sent-less : ahead-at (now + size) at l' < ahead-at now at l
-      sent-less = rw is-size (sends-less later f len d w l' e″)
+      pub sent-less : ahead-at end at l' < ahead-at now at l
+      sent-less = rw is-end (sends-less later f len d w l' e″)
 
 -- an answer of the pick that is not Sent is idle: a sound line's pick is not refused
 pub not-sent : (T : Table) (l : Line) (a : PickAnswer) (l' : Line) → outcome (pickPaper a) l' ≡ pickOf T l →

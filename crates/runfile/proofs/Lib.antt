@@ -6,3 +6,4 @@ pub mod Whole
 pub mod Runs
 pub mod Counts
 pub mod Claims
+pub mod Before

@@ -35,10 +35,10 @@ abbrev pending : Clock → ℕ
 pending still = 0
 pending (free t) = 1
 
-pick-fuel : (t k : ℕ) (l : Line) (a : Answer) (l' : Line) (m : ℕ) → PickedAs l a l' → m + 2 * waitingAll l + 1 ≤ suc k →
-    m + 2 * waitingAll l' + pending (onward t a) ≤ k
-pick-fuel t k l a l' m (idled e x y) h = rw e (omega (arith, x, y))
-pick-fuel t k l a l' m (gave f len d v e less most) h = rw e (omega (arith, less))
+pick-fuel : (T : Table) (t k : ℕ) (l : Line) (a : Answer) (l' : Line) (m : ℕ) → PickedAs l a l' → m + 2 * waitingAll l + 1 ≤ suc k →
+    m + 2 * waitingAll l' + pending (onward T t a) ≤ k
+pick-fuel T t k l a l' m (idled e x y) h = rw e (omega (arith, x, y))
+pick-fuel T t k l a l' m (gave f len d v e less most) h = rw e (omega (arith, less))
 
 module _ (T : Table) where
   -- ---- the calls are timed
@@ -57,25 +57,25 @@ module _ (T : Table) where
   )
   calls-timed (suc k) (free t) low [] l ok so m = (
     refl,
-    calls-timed k (onward t (pickOf T l .answer)) (suc t) [] (pickOf T l .line) (pick-keeps T l ok) tt
-        (pick-fuel t k l (pickOf T l .answer) (pickOf T l .line) 0 (pick-as T l ok) m),
+    calls-timed k (onward T t (pickOf T l .answer)) (suc t) [] (pickOf T l .line) (pick-keeps T l ok) tt
+        (pick-fuel T t k l (pickOf T l .answer) (pickOf T l .line) 0 (pick-as T l ok) m),
   )
   calls-timed (suc k) (free t) low (e ∷ es) l ok so m =
       by (leb (e .tick) t) refl
       (calls-timed k (free t) (e .tick) es (arrivalOf T l (e .flow) (e .length) .line) (arrival-keeps T l ok (e .flow) (e .length)) (so .1)
       (omega (arith, arrival-most T l ok (e .flow) (e .length))))
-      (λ later. calls-timed k (onward t (pickOf T l .answer)) (suc t) (e ∷ es) (pickOf T l .line) (pick-keeps T l ok) (later, so .1)
-      (pick-fuel t k l (pickOf T l .answer) (pickOf T l .line) (4 * length (e ∷ es)) (pick-as T l ok) m))
+      (λ later. calls-timed k (onward T t (pickOf T l .answer)) (suc t) (e ∷ es) (pickOf T l .line) (pick-keeps T l ok) (later, so .1)
+      (pick-fuel T t k l (pickOf T l .answer) (pickOf T l .line) (4 * length (e ∷ es)) (pick-as T l ok) m))
     where
       l₁ : Line
       l₁ = arrivalOf T l (e .flow) (e .length) .line
 
       by : (b : Bool) → leb (e .tick) t ≡ b → Timed T (e .tick) (free t) (calls k T (free t) es l₁) l₁ →
-          (suc t ≤ e .tick → Timed T (suc t) (onward t (pickOf T l .answer))
-          (calls k T (onward t (pickOf T l .answer)) (e ∷ es) (pickOf T l .line)) (pickOf T l .line)) →
+          (suc t ≤ e .tick → Timed T (suc t) (onward T t (pickOf T l .answer))
+          (calls k T (onward T t (pickOf T l .answer)) (e ∷ es) (pickOf T l .line)) (pickOf T l .line)) →
           Timed T low (free t)
           (cond b (comes (e .tick) (e .flow) (e .length) ∷ calls k T (free t) es l₁)
-          (asks t ∷ calls k T (onward t (pickOf T l .answer)) (e ∷ es) (pickOf T l .line))) l
+          (asks t ∷ calls k T (onward T t (pickOf T l .answer)) (e ∷ es) (pickOf T l .line))) l
       by true q book ask = (so .0, leb-true (e .tick) t q, book)
       by false q book ask = (refl, ask (leb-false (e .tick) t q))
 
@@ -92,22 +92,22 @@ module _ (T : Table) where
       (calls-book k (free (e .tick)) es (arrivalOf T l (e .flow) (e .length) .line) (arrival-keeps T l ok (e .flow) (e .length))
       (omega (arith, arrival-most T l ok (e .flow) (e .length))))
   calls-book (suc k) (free t) [] l ok m =
-      calls-book k (onward t (pickOf T l .answer)) [] (pickOf T l .line) (pick-keeps T l ok)
-      (pick-fuel t k l (pickOf T l .answer) (pickOf T l .line) 0 (pick-as T l ok) m)
+      calls-book k (onward T t (pickOf T l .answer)) [] (pickOf T l .line) (pick-keeps T l ok)
+      (pick-fuel T t k l (pickOf T l .answer) (pickOf T l .line) 0 (pick-as T l ok) m)
   calls-book (suc k) (free t) (e ∷ es) l ok m =
       by (leb (e .tick) t)
       (calls-book k (free t) es (arrivalOf T l (e .flow) (e .length) .line) (arrival-keeps T l ok (e .flow) (e .length))
       (omega (arith, arrival-most T l ok (e .flow) (e .length))))
-      (calls-book k (onward t (pickOf T l .answer)) (e ∷ es) (pickOf T l .line) (pick-keeps T l ok)
-      (pick-fuel t k l (pickOf T l .answer) (pickOf T l .line) (4 * length (e ∷ es)) (pick-as T l ok) m))
+      (calls-book k (onward T t (pickOf T l .answer)) (e ∷ es) (pickOf T l .line) (pick-keeps T l ok)
+      (pick-fuel T t k l (pickOf T l .answer) (pickOf T l .line) (4 * length (e ∷ es)) (pick-as T l ok) m))
     where
       l₁ : Line
       l₁ = arrivalOf T l (e .flow) (e .length) .line
 
       by : (b : Bool) → bookedIn (calls k T (free t) es l₁) ≡ es →
-          bookedIn (calls k T (onward t (pickOf T l .answer)) (e ∷ es) (pickOf T l .line)) ≡ e ∷ es →
+          bookedIn (calls k T (onward T t (pickOf T l .answer)) (e ∷ es) (pickOf T l .line)) ≡ e ∷ es →
           bookedIn (cond b (comes (e .tick) (e .flow) (e .length) ∷ calls k T (free t) es l₁)
-          (asks t ∷ calls k T (onward t (pickOf T l .answer)) (e ∷ es) (pickOf T l .line))) ≡ e ∷ es
+          (asks t ∷ calls k T (onward T t (pickOf T l .answer)) (e ∷ es) (pickOf T l .line))) ≡ e ∷ es
       by true x y = ap (λ (xs : List Event). e ∷ xs) x
       by false x y = y
 
@@ -117,8 +117,8 @@ abbrev Ahead : ℕ → Clock → Type 0
 Ahead low still = Unit {0}
 Ahead low (free t) = low ≤ suc t
 
-ahead-next : (t : ℕ) (a : Answer) → Ahead (suc t) (onward t a)
-ahead-next t a = by-test (Ahead (suc t)) (a .sends) (λ _. omega arith) (λ _. tt)
+ahead-next : (T : Table) (t : ℕ) (a : Answer) → Ahead (suc t) (onward T t a)
+ahead-next T t a = by-test (Ahead (suc t)) (a .sends) (λ _. omega arith) (λ _. tt)
 
 sorted-from : (low low' : ℕ) (es : List Event) → low ≤ low' → Sorted low' es → Sorted low es
 sorted-from low low' [] h so = tt
@@ -142,14 +142,14 @@ module _ (T : Table) where
   booked-sorted (asks u ∷ ks) low still l g h = absurd h
   booked-sorted (asks u ∷ ks) low (free t) l g h =
       sorted-from low (suc t) (bookedIn ks) g
-      (booked-sorted ks (suc t) (onward t (pickOf T l .answer)) (pickOf T l .line) (ahead-next t (pickOf T l .answer)) (h .1))
+      (booked-sorted ks (suc t) (onward T t (pickOf T l .answer)) (pickOf T l .line) (ahead-next T t (pickOf T l .answer)) (h .1))
 
   -- an event at or before t is booked before the pick at t
   too-late : (ks : List Act) (t : ℕ) (l : Line) (e : Event) (es : List Event) →
-      Timed T (suc t) (onward t (pickOf T l .answer)) ks (pickOf T l .line) → e ∷ es ≡ bookedIn ks → e .tick ≤ t → ⊥
+      Timed T (suc t) (onward T t (pickOf T l .answer)) ks (pickOf T l .line) → e ∷ es ≡ bookedIn ks → e .tick ≤ t → ⊥
   too-late ks t l e es h b early =
       let so = subst (Sorted (suc t)) (sym b)
-      (booked-sorted ks (suc t) (onward t (pickOf T l .answer)) (pickOf T l .line) (ahead-next t (pickOf T l .answer)) h) in
+      (booked-sorted ks (suc t) (onward T t (pickOf T l .answer)) (pickOf T l .line) (ahead-next T t (pickOf T l .answer)) h) in
       omega (arith, so .0)
 
   pub one-timed : (ks js : List Act) (low low' : ℕ) (c : Clock) (l : Line) → Timed T low c ks l → Timed T low' c js l →
@@ -177,7 +177,7 @@ module _ (T : Table) where
   one-timed (asks u ∷ ks) (comes a f n ∷ js) low low' (free t) l h h' b = absurd (too-late ks t l _ _ (h .1) (sym b) (h' .1))
   one-timed (asks u ∷ ks) (asks u' ∷ js) low low' still l h h' b = absurd h
   one-timed (asks u ∷ ks) (asks u' ∷ js) low low' (free t) l h h' b =
-      let on = one-timed ks js (suc t) (suc t) (onward t (pickOf T l .answer)) (pickOf T l .line) (h .1) (h' .1) b in
+      let on = one-timed ks js (suc t) (suc t) (onward T t (pickOf T l .answer)) (pickOf T l .line) (h .1) (h' .1) b in
       λ i. asks ((h .0 ∙ sym (h' .0)) i) ∷ on i
 
   -- ---- at the end nothing waits
@@ -185,7 +185,7 @@ module _ (T : Table) where
   Quiet still l = waitingAll l ≡ 0
   Quiet (free t) l = Unit {0}
 
-  quiet-next : (t : ℕ) (l : Line) (a : Answer) (l' : Line) → PickedAs l a l' → Quiet (onward t a) l'
+  quiet-next : (t : ℕ) (l : Line) (a : Answer) (l' : Line) → PickedAs l a l' → Quiet (onward T t a) l'
   quiet-next t l a l' (idled e x y) = rw e x
   quiet-next t l a l' (gave f len d v e less most) = rw e tt
 
@@ -198,7 +198,7 @@ module _ (T : Table) where
       none-left ks a (free t) (arrivalOf T l f n .line) (arrival-keeps T l ok f n) tt (h .2)
   none-left (asks u ∷ ks) low still l ok q h = absurd h
   none-left (asks u ∷ ks) low (free t) l ok q h =
-      none-left ks (suc t) (onward t (pickOf T l .answer)) (pickOf T l .line) (pick-keeps T l ok)
+      none-left ks (suc t) (onward T t (pickOf T l .answer)) (pickOf T l .line) (pick-keeps T l ok)
       (quiet-next t l (pickOf T l .answer) (pickOf T l .line) (pick-as T l ok)) (h .1)
 
 -- ---- the run of these events on a fresh line

@@ -16,7 +16,7 @@ use Rattle.drr.specs.Answers.{numberOf, fine, refusedAt}
 use Rattle.drr.proofs.Bools.{dec, below?}
 use Rattle.drr.proofs.Papers.{number-some}
 use Rattle.drr.proofs.Tables.{made-ranged}
-use Rattle.runfile.specs.File.{eventCount, eventOffset, flowCount, flowOffset, flowsIn, eventsFrom, layoutIn}
+use Rattle.runfile.specs.File.{eventCount, eventOffset, flowCount, flowOffset, flowsIn, termsIn, eventsFrom, layoutIn}
 use Rattle.runfile.specs.File.{fileAnswer, fileTable, fileEvents, runAnswer}
 use Rattle.runfile.specs.Run.{tableIn}
 use Rattle.runfile.specs.Listing.{eventsListing, eventsWaiting, runListing, runWaiting, filled, roomOf, filledLines, filledBeside}
@@ -45,7 +45,7 @@ module _ (b : List ℕ) (ok : fileAnswer b .refusal ≡ 0) (T : Table) (is : T �
   some-flow = omega (arith, ap (λ (t : Table). t .n) is, flows-length (drop (flowOffset b) b) 0 (flowCount b), file-laid b ok .flows-some)
 
   ranged : Ranged T
-  ranged = subst Ranged (sym is) (made-ranged (flowsIn b) (file-setup b ok))
+  ranged = subst Ranged (sym is) (made-ranged (flowsIn b) (termsIn b) (file-setup b ok))
 
   pub handed : (out beside : List ℕ) → 6 * (eventCount b + 1) ≤ roomOf out beside →
       ((8 * m ≤ length part) × (m ≤ mostEvents)) × ((Ranged T × (1 ≤ T .n)) × ((6 * (m + 1) ≤ length out) × (m ≤ length beside)))

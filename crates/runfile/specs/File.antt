@@ -7,10 +7,11 @@ use lib.ListN.{length, getD, drop}
 use Rattle.drr.specs.declared.Table.{Table}
 use Rattle.runfile.specs.declared.turns.Event.{Event as Three}
 use Rattle.drr.specs.declared.FlowRecord.{FlowRecord}
-use Rattle.drr.specs.Limits.{mostFlows, mostEvents}
+use Rattle.drr.specs.declared.Terms.{Terms}
+use Rattle.drr.specs.Limits.{mostFlows, mostOverhead, mostEvents}
 use Rattle.drr.specs.State.{noFlows, emptyTable}
 use Rattle.drr.specs.Answers.{Answer, fine, refusedAt, Reply, reply}
-use Rattle.drr.specs.Setup.{tableFor, flowsAnswer, setupReply}
+use Rattle.drr.specs.Setup.{termsOf, tableFor, flowsAnswer, setupReply}
 use Rattle.runfile.specs.declared.reader.Part.{Part}
 use Rattle.runfile.specs.declared.reader.Layout.{Layout}
 
@@ -29,7 +30,7 @@ abbrev pub mostBytes : ℕ
 mostBytes = 12288
 
 -- "flow count (2 bytes), event count (2), offset of the flow table (4), offset of the event table (4), file length (4), reserved, zero
--- (4)"
+-- (4)"; E2: "The run file's reserved field becomes the overhead."
 abbrev pub flowCount : List ℕ → ℕ
 flowCount b = le2 b 0
 
@@ -45,8 +46,8 @@ eventOffset b = le4 b 8
 abbrev pub statedLength : List ℕ → ℕ
 statedLength b = le4 b 12
 
-abbrev pub reserved : List ℕ → ℕ
-reserved b = le4 b 16
+abbrev pub overheadIn : List ℕ → ℕ
+overheadIn b = le4 b 16
 
 -- a table of the file: how many records it has, and its offset
 abbrev pub part : ℕ → ℕ → Part
@@ -87,6 +88,10 @@ eventsFrom t i (suc k) = eventAt t i ∷ eventsFrom t (i + 1) k
 abbrev pub flowsIn : List ℕ → List FlowRecord
 flowsIn b = flowsFrom (drop (flowOffset b) b) 0 (flowCount b)
 
+-- what setup is told beside the flows
+abbrev pub termsIn : List ℕ → Terms
+termsIn b = termsOf (overheadIn b)
+
 abbrev pub eventsIn : List ℕ → List Event
 eventsIn b = eventsFrom (drop (eventOffset b) b) 0 (eventCount b)
 
@@ -99,13 +104,14 @@ tablesb flows events flowsAt eventsAt size =
     && (leb (flowsAt + 8 * flows) size && leb (eventsAt + 8 * events) size)
     && (eqb flows 0 || eqb events 0 || leb (flowsAt + 8 * flows) eventsAt || leb (eventsAt + 8 * events) flowsAt)
 
--- 9, 10, 5, 11, 12: "file under 20 or above 12,288 bytes, or stated length not the true one", "reserved field not zero", "flow list of
--- 0 or more than 16", "more than 1,024 events", "an offset or table against the rules above"
+-- 9, 10, 5, 11, 12: "file under 20 or above 12,288 bytes, or stated length not the true one", E2: "10 now means an overhead above 64,
+-- tested .. in a run where it stood", "flow list of 0 or more than 16", "more than 1,024 events", "an offset or table against the rules
+-- above"
 unfoldable pub headerAnswer : List ℕ → Answer
 headerAnswer b =
     cond (ltb (length b) headerSize || ltb mostBytes (length b)) (refusedAt 9 0)
     (cond (not (eqb (statedLength b) (length b))) (refusedAt 9 0)
-    (cond (not (eqb (reserved b) 0)) (refusedAt 10 0)
+    (cond (ltb mostOverhead (overheadIn b)) (refusedAt 10 0)
     (cond (eqb (flowCount b) 0 || ltb mostFlows (flowCount b)) (refusedAt 5 0)
     (cond (ltb mostEvents (eventCount b)) (refusedAt 11 0)
     (cond (not (tablesb (flowCount b) (eventCount b) (flowOffset b) (eventOffset b) (length b))) (refusedAt 12 0)
@@ -139,19 +145,20 @@ runAnswer b room = firstRefused (fileAnswer b) (cond (ltb room (6 * (eventCount 
 
 -- the table, and where the events stand; a refusal gives the empty table, as setup's does, and no events
 unfoldable pub fileTable : List ℕ → Table
-fileTable b = cond (eqb (fileAnswer b .refusal) 0) (tableFor (flowsIn b)) noFlows
+fileTable b = cond (eqb (fileAnswer b .refusal) 0) (tableFor (flowsIn b) (termsIn b)) noFlows
 
 unfoldable pub fileEvents : List ℕ → Part
 fileEvents b = cond (eqb (fileAnswer b .refusal) 0) (part (eventCount b) (eventOffset b)) noRecords
 
 -- the answer of a reader that leaves the events alone: "9, 10, 5, 11, 12, 6 and 7 by flow", and the fresh state
 unfoldable pub flowsReply : List ℕ → Reply
-flowsReply b = cond (eqb (headerAnswer b .refusal) 0) (setupReply (flowsIn b)) (reply (headerAnswer b) emptyTable)
+flowsReply b = cond (eqb (headerAnswer b .refusal) 0) (setupReply (flowsIn b) (termsIn b)) (reply (headerAnswer b) emptyTable)
 
 -- what a header without a fault says
 pub record Laid (b : List ℕ) : Type 0 where
   pub long : headerSize ≤ length b
   pub short : length b ≤ mostBytes
+  pub overhead-most : overheadIn b ≤ mostOverhead
   pub flows-some : 1 ≤ flowCount b
   pub flows-few : flowCount b ≤ mostFlows
   pub events-few : eventCount b ≤ mostEvents

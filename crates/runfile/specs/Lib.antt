@@ -2,3 +2,4 @@ pub mod File
 pub mod Run
 pub mod Listing
 pub mod Needs
+pub mod Before

@@ -36,17 +36,18 @@ abbrev pub afterEvent : ℕ → ℕ → Tally → Tally
 afterEvent tick refusal y =
     tally (y .sent) (cond (eqb refusal 0) (y .refused) (y .refused + 1)) (cond (eqb (y .sent) 0) tick (y .last))
 
-abbrev pub afterPick : ℕ → Answer → Tally → Tally
-afterPick tick a y = cond (a .sends) (tally (y .sent + 1) (y .refused) (tick + charge (lengthIn a))) y
+-- E2: "line ticks .. speak of charges", so a packet ends when the line is free again
+abbrev pub afterPick : Table → ℕ → Answer → Tally → Tally
+afterPick T tick a y = cond (a .sends) (tally (y .sent + 1) (y .refused) (tick + charge T (lengthIn a))) y
 
-abbrev pub afterAct : Act → Answer → Tally → Tally
-afterAct (comes tick flow length) a y = afterEvent tick (a .refusal) y
-afterAct (asks tick) a y = afterPick tick a y
+abbrev pub afterAct : Table → Act → Answer → Tally → Tally
+afterAct T (comes tick flow length) a y = afterEvent tick (a .refusal) y
+afterAct T (asks tick) a y = afterPick T tick a y
 
 -- the count after the calls: line 3 tells it
 abbrev pub tallyAfter : Table → List Act → Line → Tally → Tally
 tallyAfter T [] l y = y
-tallyAfter T (k ∷ ks) l y = tallyAfter T ks (outcomeOf T l k .line) (afterAct k (outcomeOf T l k .answer) y)
+tallyAfter T (k ∷ ks) l y = tallyAfter T ks (outcomeOf T l k .line) (afterAct T k (outcomeOf T l k .answer) y)
 
 -- "3, tick when the line fell free, packets sent, events refused, 0, 0"
 abbrev pub endLine : Tally → List ℕ
@@ -56,7 +57,7 @@ endLine y = 3 ∷ y .last ∷ y .sent ∷ y .refused ∷ 0 ∷ 0 ∷ []
 unfoldable pub listing : Table → List Act → Line → Tally → List ℕ
 listing T [] l y = endLine y
 listing T (k ∷ ks) l y =
-    lineFor k (outcomeOf T l k .answer) ++ listing T ks (outcomeOf T l k .line) (afterAct k (outcomeOf T l k .answer) y)
+    lineFor k (outcomeOf T l k .answer) ++ listing T ks (outcomeOf T l k .line) (afterAct T k (outcomeOf T l k .answer) y)
 
 -- the lines that come before line 3
 abbrev pub linesOf : Table → List Act → Line → List ℕ
@@ -79,13 +80,13 @@ besideAll T [] l = []
 besideAll T (k ∷ ks) l = besideOf k (outcomeOf T l k .answer) (outcomeOf T l k .line) ++ besideAll T ks (outcomeOf T l k .line)
 
 -- the ends of the packets sent, in their order
-abbrev pub endOf : ℕ → Answer → List ℕ
-endOf tick a = cond (a .sends) ((tick + charge (lengthIn a)) ∷ []) []
+abbrev pub endOf : Table → ℕ → Answer → List ℕ
+endOf T tick a = cond (a .sends) ((tick + charge T (lengthIn a)) ∷ []) []
 
 abbrev pub ends : Table → List Act → Line → List ℕ
 ends T [] l = []
 ends T (comes tick flow length ∷ ks) l = ends T ks (arrivalOf T l flow length .line)
-ends T (asks tick ∷ ks) l = endOf tick (pickOf T l .answer) ++ ends T ks (pickOf T l .line)
+ends T (asks tick ∷ ks) l = endOf T tick (pickOf T l .answer) ++ ends T ks (pickOf T l .line)
 
 -- the events' ticks, and the last number of a list, d for an empty one
 abbrev pub ticksOf : List Event → List ℕ

@@ -12,7 +12,7 @@ use Rattle.drr.specs.Arrival.{arrivalOf}
 use Rattle.drr.specs.Computed.{pickOf}
 use Rattle.drr.specs.Setup.{tableFor}
 use Rattle.drr.specs.Floor.{Call, arrives, picks, callOf}
-use Rattle.runfile.specs.File.{Event, flowsIn, eventsIn}
+use Rattle.runfile.specs.File.{Event, flowsIn, termsIn, eventsIn}
 
 -- a call at its tick: an event is booked (tick, flow, length), or a pick is made
 pub data Act : Type 0 where
@@ -37,9 +37,9 @@ pub data Clock : Type 0 where
   free : ℕ → Clock
   still : Clock
 
--- after a pick at t. "Sent: the line is free again after that many ticks as the packet has bytes. Idle: .."
-abbrev pub onward : ℕ → Answer → Clock
-onward t a = cond (a .sends) (free (t + charge (lengthIn a))) still
+-- after a pick at t. "Sent: the line is free again after that many ticks as the packet has bytes", E2: as it is charged. "Idle: .."
+abbrev pub onward : Table → ℕ → Answer → Clock
+onward T t a = cond (a .sends) (free (t + charge T (lengthIn a))) still
 
 -- The calls are timed as document 01 says, from the line l on; no event below the tick `low` is left.
 -- "When the line is free, all events with a tick at or before now are booked in file order, then a pick is made. .. Idle: now becomes
@@ -51,7 +51,7 @@ Timed T low (free t) [] l = ⊥
 Timed T low still (comes a f len ∷ ks) l = (low ≤ a) × Timed T a (free a) ks (arrivalOf T l f len .line)
 Timed T low (free t) (comes a f len ∷ ks) l = (low ≤ a) × (a ≤ t) × Timed T a (free t) ks (arrivalOf T l f len .line)
 Timed T low still (asks u ∷ ks) l = ⊥
-Timed T low (free t) (asks u ∷ ks) l = (u ≡ t) × Timed T (suc t) (onward t (pickOf T l .answer)) ks (pickOf T l .line)
+Timed T low (free t) (asks u ∷ ks) l = (u ≡ t) × Timed T (suc t) (onward T t (pickOf T l .answer)) ks (pickOf T l .line)
 
 -- the events that the calls book, in their order
 abbrev pub bookedIn : List Act → List Event
@@ -65,11 +65,11 @@ calls zero T c es l = []
 calls (suc k) T still [] l = []
 calls (suc k) T still (e ∷ es) l =
     comes (e .tick) (e .flow) (e .length) ∷ calls k T (free (e .tick)) es (arrivalOf T l (e .flow) (e .length) .line)
-calls (suc k) T (free t) [] l = asks t ∷ calls k T (onward t (pickOf T l .answer)) [] (pickOf T l .line)
+calls (suc k) T (free t) [] l = asks t ∷ calls k T (onward T t (pickOf T l .answer)) [] (pickOf T l .line)
 calls (suc k) T (free t) (e ∷ es) l =
     cond (leb (e .tick) t)
     (comes (e .tick) (e .flow) (e .length) ∷ calls k T (free t) es (arrivalOf T l (e .flow) (e .length) .line))
-    (asks t ∷ calls k T (onward t (pickOf T l .answer)) (e ∷ es) (pickOf T l .line))
+    (asks t ∷ calls k T (onward T t (pickOf T l .answer)) (e ∷ es) (pickOf T l .line))
 
 -- each event is booked once and sent at most once, and makes the line idle at most once: so many calls are enough
 abbrev pub enough : List Event → ℕ
@@ -81,7 +81,7 @@ runOf T es = calls (enough es) T (free 0) es (freshLine (T .n))
 
 -- the table and the run of a file
 abbrev pub tableIn : List ℕ → Table
-tableIn b = tableFor (flowsIn b)
+tableIn b = tableFor (flowsIn b) (termsIn b)
 
 abbrev pub runCalls : List ℕ → List Act
 runCalls b = runOf (tableIn b) (eventsIn b)

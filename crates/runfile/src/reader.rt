@@ -17,7 +17,7 @@ ghost use Rattle.drr.specs.State.{noFlows, freshState};
 ghost use Rattle.drr.specs.Answers.{numberOf, fine, refusedAt, verdictPaper, reply};
 ghost use Rattle.drr.specs.Setup.{setupAnswer, setupTable, recordsIn};
 ghost use Rattle.runfile.specs.File.{headerSize, Narrow, noRecords, layoutIn, noTables, tablesb, Laid};
-ghost use Rattle.runfile.specs.File.{headerAnswer, headerLayout, flowsFrom, flowsIn, eventsFrom, ticksAnswer};
+ghost use Rattle.runfile.specs.File.{headerAnswer, headerLayout, flowsFrom, flowsIn, termsIn, eventsFrom, ticksAnswer};
 ghost use Rattle.runfile.specs.File.{fileAnswer, fileTable, fileEvents, flowsReply};
 
 // The header's bytes, and the most that a file may have (specs/File.antt).
@@ -112,8 +112,8 @@ fn header(file: &[u8]) -> Headed
     if le4(file, 12) != size {
         return no_tables(Refusal::FileLength);
     }
-    if le4(file, 16) != 0 {
-        return no_tables(Refusal::Reserved);
+    if (drr::MOST_OVERHEAD as usize) < le4(file, 16) {
+        return no_tables(Refusal::OverheadRange);
     }
     let layout = layout_of(file);
     let flows = layout.flows;
@@ -180,12 +180,13 @@ fn ticks(t: &[u8], m: usize) -> Verdict
 // 6 and 7 of a file whose header has no fault, and the table of its flows.
 fn flows_of(file: &[u8], flows: Part) -> Tabled
     requires { ⌜ Laid (now file) × (flows ≡ layoutIn (now file) .flows) ⌝ }
-    ensures { λ r. ⌜ verdictPaper (r .answer) ≡ setupAnswer (flowsIn (now (file .entry))) ⌝ }
-    ensures { λ r. ⌜ r .table ≡ setupTable (flowsIn (now (file .entry))) ⌝ }
+    ensures { λ r. ⌜ verdictPaper (r .answer) ≡ setupAnswer (flowsIn (now (file .entry))) (termsIn (now (file .entry))) ⌝ }
+    ensures { λ r. ⌜ r .table ≡ setupTable (flowsIn (now (file .entry))) (termsIn (now (file .entry))) ⌝ }
 {
     let at = flows.at;
     let list = records(&file[at..], flows.count);
-    scheduler::flows::table_of(list, Terms {})
+    let overhead = le4(file, 16) as u32;
+    scheduler::flows::table_of(list, Terms { overhead: overhead })
 }
 
 // A refusal gives the empty table, and no events.

@@ -126,38 +126,37 @@ fn note_beside(beside: &mut [u64], y: Tally, number: usize, answer: ArrivalAnswe
     }
 }
 
-// The line of a packet that is sent from the tick `start` on, and the count after it.
+// The line of a packet that is sent from the tick `start` to the tick `end`, and the count after it.
 fn send_line(
     out: &mut [u64],
     y: Tally,
     start: usize,
+    end: usize,
     flow: usize,
     len: u32,
     deficit: u32,
     visits: u32,
 ) -> Tally
     requires { ⌜ Room 6 y (now out) ⌝ }
-    requires { ⌜ start + len ≤ 5000000000 ⌝ }
-    ensures { λ r. ⌜ r ≡ tally (y .sent + 1) (y .refused) (start + len) ⌝ }
+    ensures { λ r. ⌜ r ≡ tally (y .sent + 1) (y .refused) end ⌝ }
     ensures { λ _. ⌜
         now (out .exit)
         ≡ written 6 (now (out .entry)) (y .sent + y .refused) (1 ∷ start ∷ flow ∷ len ∷ deficit ∷ visits ∷ []) ⌝ }
 {
-    let size = widths::usize_of_u32(len);
     put_line(
         out,
         y.sent + y.refused,
         1,
         start,
         flow,
-        size,
+        widths::usize_of_u32(len),
         widths::usize_of_u32(deficit),
         widths::usize_of_u32(visits),
     );
     Tally {
         sent: y.sent + 1,
         refused: y.refused,
-        last: start + size,
+        last: end,
     }
 }
 
@@ -269,7 +268,9 @@ pub fn run_events(t: &[u8], m: usize, table: Table, out: &mut [u64], beside: &mu
             continue;
         };
         put_beside(beside, y, waiting_at(&sums, flow));
-        y = send_line(out, y, now, flow, len, deficit, visits);
-        now += widths::usize_of_u32(len);
+        // the line is free again after as many ticks as the packet is charged
+        let end = now + widths::usize_of_u32(engine::charge_of(common, len as u16));
+        y = send_line(out, y, now, end, flow, len, deficit, visits);
+        now = end;
     }
 }

@@ -9,26 +9,27 @@ use native.Mathlib.Nat.{zero-add}
 use lib.Dec.{eqb, ltb}
 use lib.ListN.{length, getD, replicate, take, length-take}
 use lib.Seq.{paste, take-paste, take-all}
-use Rattle.drr.specs.declared.Refusal.the-variants.{FlowCount, QuantumRange, MaximumRange}
+use Rattle.drr.specs.declared.Refusal.the-variants.{FlowCount, QuantumRange, MaximumRange, OverheadRange}
 use Rattle.drr.specs.declared.FlowRecord.{FlowRecord}
 use Rattle.drr.specs.declared.Terms.{Terms}
 use Rattle.scheduler.specs.declared.flows.Copied.{Copied}
 use Rattle.drr.specs.declared.Made.{Made}
-use Rattle.drr.specs.Limits.{mostFlows}
+use Rattle.drr.specs.declared.Table.{Table}
+use Rattle.drr.specs.Limits.{mostFlows, mostOverhead}
 use Rattle.drr.specs.Sound.{quantumb, maximumb}
 use Rattle.drr.specs.State.{freshState}
 use Rattle.drr.specs.Answers.{Answer, verdictPaper, Reply, reply}
 use Rattle.drr.specs.Setup.{flowsAnswer, setupAnswer, setupTable, setupReply}
 use Rattle.scheduler.specs.Copying.{putOf}
-use Rattle.drr.proofs.Bools.{below?, by-test}
+use Rattle.drr.proofs.Bools.{below?, by-test, dec}
 use Rattle.drr.proofs.Copies.{copy-turn}
 use Rattle.drr.proofs.Papers.{verdictFrom, verdict-back, fine-back, refused-back}
 use Rattle.drr.proofs.Tables.{none}
-use Rattle.scheduler.proofs.Setups.{too-many}
+use Rattle.scheduler.proofs.Setups.{Gives, gives-over, too-many}
 
 -- what setup gives of a list and the terms; the walk speaks of it by this name alone
 abbrev pub replyOn : Terms → List FlowRecord → Reply
-replyOn t xs = setupReply xs
+replyOn t xs = setupReply xs t
 
 -- after i records of xs
 abbrev pub copiedAt : List FlowRecord → Terms → ℕ → Copied
@@ -40,24 +41,27 @@ pub put-next : (xs : List FlowRecord) (t : Terms) (i : ℕ) → i < 17 → i < l
 put-next xs t i few l = simp (copy-turn (replicate 17 none) xs i none few l)
 
 -- ---- the end: the first seventeen stand in the array, and setup says of them what it says of the list
-long-same : (xs ys : List FlowRecord) → mostFlows < length xs → mostFlows < length ys → setupReply xs ≡ setupReply ys
-long-same xs ys more more' =
-    let a = too-many xs more in
-    let b = too-many ys more' in
-    λ i. reply ((sym (a .answers) ∙ b .answers) i) (freshState ((sym (a .makes) ∙ b .makes) i))
+gives-same : (xs ys : List FlowRecord) (t : Terms) {a : Answer} {T : Table} → Gives xs t a T → Gives ys t a T → replyOn t xs ≡ replyOn t ys
+gives-same xs ys t x y = λ i. reply ((sym (x .answers) ∙ y .answers) i) (freshState ((sym (x .makes) ∙ y .makes) i))
+
+long-same : (xs ys : List FlowRecord) (t : Terms) → mostFlows < length xs → mostFlows < length ys → replyOn t xs ≡ replyOn t ys
+long-same xs ys t more more' = ⊎-elim
+    (λ over. gives-same xs ys t (gives-over xs t over) (gives-over ys t over))
+    (λ fits. gives-same xs ys t (too-many xs t fits more) (too-many ys t fits more'))
+    (dec (ltb mostOverhead (t .overhead)))
 
 pub copied-all : (xs : List FlowRecord) (t : Terms) (i : ℕ) → i ≡ min (length xs) 17 →
-    setupReply (take (copiedAt xs t i .at) (copiedAt xs t i .records)) ≡ replyOn t xs
-copied-all xs t i is = ap setupReply first ∙ whole
+    replyOn t (take (copiedAt xs t i .at) (copiedAt xs t i .records)) ≡ replyOn t xs
+copied-all xs t i is = ap (replyOn t) first ∙ whole
   where
     first : take i (paste (replicate 17 none) 0 xs i) ≡ take i xs
     first = ap (λ (k : ℕ). take k (paste (replicate 17 none) 0 xs i)) (sym (zero-add i))
         ∙ take-paste (replicate 17 none) 0 xs i (omega arith) (omega arith)
 
-    whole : setupReply (take i xs) ≡ setupReply xs
+    whole : replyOn t (take i xs) ≡ replyOn t xs
     whole = ⊎-elim
-        (λ more. long-same (take i xs) xs (omega (arith, length-take i xs)) more)
-        (λ few. ap setupReply (take-all i xs (omega arith)))
+        (λ more. long-same (take i xs) xs t (omega (arith, length-take i xs)) more)
+        (λ few. ap (replyOn t) (take-all i xs (omega arith)))
         (below? mostFlows (length xs))
 
 -- ---- the value that a paper answer and a state make
@@ -78,11 +82,12 @@ flows-back f (x ∷ xs) =
     by-test Comes-back (not (quantumb (x .quantum))) (λ _. refused-back QuantumRange f) (λ _.
     by-test Comes-back (not (maximumb (x .maximum))) (λ _. refused-back MaximumRange f) (λ _. flows-back (f + 1) xs))
 
-answer-back : (xs : List FlowRecord) → Comes-back (setupAnswer xs)
+answer-back : (xs : List FlowRecord) (t : Terms) → Comes-back (setupAnswer xs t)
 unfolding setupAnswer
-answer-back xs =
-    by-test Comes-back (eqb (length xs) 0 || ltb mostFlows (length xs)) (λ _. refused-back FlowCount 0) (λ _. flows-back 0 xs)
+answer-back xs t =
+    by-test Comes-back (ltb mostOverhead (t .overhead)) (λ _. refused-back OverheadRange 0) (λ _.
+    by-test Comes-back (eqb (length xs) 0 || ltb mostFlows (length xs)) (λ _. refused-back FlowCount 0) (λ _. flows-back 0 xs))
 
 pub made-meets : (t : Terms) (xs : List FlowRecord) →
     reply (verdictPaper (madeFrom (replyOn t xs) .answer)) (madeFrom (replyOn t xs) .state) ≡ replyOn t xs
-made-meets t xs = ap (λ (a : Answer). reply a (freshState (setupTable xs))) (answer-back xs)
+made-meets t xs = ap (λ (a : Answer). reply a (freshState (setupTable xs t))) (answer-back xs t)

@@ -14,7 +14,8 @@ use lib.Seq.{length-take-le, getD-take, drop-cons}
 use Rattle.drr.specs.declared.FlowRecord.{FlowRecord}
 use Rattle.drr.specs.declared.Table.{Table}
 use Rattle.drr.specs.declared.Refusal.{Refusal}
-use Rattle.drr.specs.Limits.{mostFlows}
+use Rattle.drr.specs.declared.Terms.{Terms}
+use Rattle.drr.specs.Limits.{mostFlows, mostOverhead}
 use Rattle.drr.specs.State.{common, tableOf, noFlows}
 use Rattle.drr.specs.Sound.{quantumb, maximumb}
 use Rattle.drr.specs.Answers.{Answer, numberOf, fine, refusedAt}
@@ -68,34 +69,43 @@ cells-more p xs i cs is l =
 
 pub table-filled : (xs : List FlowRecord) (c : ℕ) (qs ms : List ℕ) → c ≤ length xs →
     qs ≡ cells (λ r. r .quantum) 16 (take c xs) → ms ≡ cells (λ r. r .maximum) 16 (take c xs) →
-    tableOf (common c) qs ms ≡ tableFor (take c xs)
-table-filled xs c qs ms inside q m = rw (q, m, length-take-le c xs inside)
+    (terms : Terms) → tableOf (common c (terms .overhead)) qs ms ≡ tableFor (take c xs) terms
+table-filled xs c qs ms inside q m terms = rw (q, m, length-take-le c xs inside)
 
 -- ---- an answer and a table are setup's
-pub record Gives (xs : List FlowRecord) (a : Answer) (T : Table) : Type 0 where
-  pub answers : a ≡ setupAnswer xs
-  pub makes : T ≡ setupTable xs
+pub record Gives (xs : List FlowRecord) (terms : Terms) (a : Answer) (T : Table) : Type 0 where
+  pub answers : a ≡ setupAnswer xs terms
+  pub makes : T ≡ setupTable xs terms
 
-module _ (xs : List FlowRecord) where
-  abbrev pub Counted : Bool → Type 0
-  Counted b = (eqb (length xs) 0 || ltb mostFlows (length xs)) ≡ b
+abbrev pub Counted : List FlowRecord → Bool → Type 0
+Counted xs b = (eqb (length xs) 0 || ltb mostFlows (length xs)) ≡ b
 
-  pub gives-count : Counted true → Gives xs (refusedAt 5 0) noFlows
+module _ (xs : List FlowRecord) (terms : Terms) where
+  abbrev pub Over : Bool → Type 0
+  Over b = ltb mostOverhead (terms .overhead) ≡ b
+
+  pub gives-over : Over true → Gives xs terms (refusedAt 10 0) noFlows
   unfolding setupTable setupAnswer
-  gives-count e = record { answers = rw e; makes = rw e }
+  gives-over o = record { answers = rw o; makes = rw o }
 
-  pub gives-bad : Counted false → (why : Refusal) (place : ℕ) → refusedAt (numberOf why) place ≡ flowsAnswer 0 xs →
-      Gives xs (refusedAt (numberOf why) place) noFlows
+  pub gives-count : Over false → Counted xs true → Gives xs terms (refusedAt 5 0) noFlows
   unfolding setupTable setupAnswer
-  gives-bad e why place is = record { answers = rw (e, ← is); makes = rw (e, ← is, number-some why) }
+  gives-count o e = record { answers = rw (o, e); makes = rw (o, e) }
 
-  pub gives-table : Counted false → fine ≡ flowsAnswer 0 xs → Gives xs fine (tableFor xs)
+  pub gives-bad : Over false → Counted xs false → (why : Refusal) (place : ℕ) → refusedAt (numberOf why) place ≡ flowsAnswer 0 xs →
+      Gives xs terms (refusedAt (numberOf why) place) noFlows
   unfolding setupTable setupAnswer
-  gives-table e is = record { answers = rw (e, ← is); makes = rw (e, ← is) }
+  gives-bad o e why place is = record { answers = rw (o, e, ← is); makes = rw (o, e, ← is, number-some why) }
 
--- more than sixteen are refused by 5, however many
-pub too-many : (xs : List FlowRecord) → mostFlows < length xs → Gives xs (refusedAt 5 0) noFlows
-too-many xs more = gives-count xs (or-inr (eqb (length xs) 0) (ltb mostFlows (length xs)) (lt-ltb mostFlows (length xs) more))
+  pub gives-table : Over false → Counted xs false → fine ≡ flowsAnswer 0 xs → Gives xs terms fine (tableFor xs terms)
+  unfolding setupTable setupAnswer
+  gives-table o e is = record { answers = rw (o, e, ← is); makes = rw (o, e, ← is) }
+
+-- more than sixteen are refused by 5, however many, where the overhead is not refused before
+pub too-many : (xs : List FlowRecord) (terms : Terms) → Over xs terms false → mostFlows < length xs →
+    Gives xs terms (refusedAt 5 0) noFlows
+too-many xs terms o more =
+    gives-count xs terms o (or-inr (eqb (length xs) 0) (ltb mostFlows (length xs)) (lt-ltb mostFlows (length xs) more))
 
 -- the count that the code tests is the list's, of a list of seventeen
 pub counted : (rs : List FlowRecord) (c : ℕ) (b : Bool) → length rs ≡ 17 → (eqb c 0 || ltb mostFlows c) ≡ b → Counted (take c rs) b

@@ -61,6 +61,7 @@ pub fn refused(why: Refusal, place: usize) -> Tabled
 {
     let none = Table {
         n: 0,
+        overhead: 0,
         quanta: [0u32; 16],
         maxima: [0u32; 16],
     };
@@ -70,10 +71,10 @@ pub fn refused(why: Refusal, place: usize) -> Tabled
     }
 }
 
-// The table of the first `count` records.
-fn filled(records: [FlowRecord; 17], count: usize) -> Table
+// The table of the first `count` records and the terms.
+fn filled(records: [FlowRecord; 17], count: usize, terms: Terms) -> Table
     requires { ⌜ count ≤ mostFlows ⌝ }
-    ensures { λ r. ⌜ r ≡ tableFor (take count records) ⌝ }
+    ensures { λ r. ⌜ r ≡ tableFor (take count records) terms ⌝ }
 {
     let mut quanta = [0u32; 16];
     let mut maxima = [0u32; 16];
@@ -86,6 +87,7 @@ fn filled(records: [FlowRecord; 17], count: usize) -> Table
     }
     Table {
         n: count,
+        overhead: terms.overhead,
         quanta: quanta,
         maxima: maxima,
     }
@@ -112,10 +114,13 @@ fn flows_answer(records: [FlowRecord; 17], count: usize) -> Verdict
     Verdict::Fine
 }
 
-// Setup's answer on a list, and the table that it makes.
-pub fn table_of(list: FlowList, _terms: Terms) -> Tabled
-    ensures { λ r. ⌜ (verdictPaper (r .answer) ≡ setupAnswer (recordsIn list)) × (r .table ≡ setupTable (recordsIn list)) ⌝ }
+// Setup's answer on a list and the terms, and the table that it makes.
+pub fn table_of(list: FlowList, terms: Terms) -> Tabled
+    ensures { λ r. ⌜ (verdictPaper (r .answer) ≡ setupAnswer (recordsIn list) terms) × (r .table ≡ setupTable (recordsIn list) terms) ⌝ }
 {
+    if drr::MOST_OVERHEAD < terms.overhead {
+        return refused(Refusal::OverheadRange, 0);
+    }
     let records = list.records;
     let count = list.count;
     if (count == 0) | (drr::MOST_FLOWS < count) {
@@ -125,7 +130,7 @@ pub fn table_of(list: FlowList, _terms: Terms) -> Tabled
     if let Verdict::Refused(why, place) = answer {
         return refused(why, place);
     }
-    let table = filled(records, count);
+    let table = filled(records, count, terms);
     Tabled {
         answer: Verdict::Fine,
         table: table,
@@ -134,7 +139,7 @@ pub fn table_of(list: FlowList, _terms: Terms) -> Tabled
 
 // Setup of a list as it is carried.
 pub fn setup_of(list: FlowList, terms: Terms) -> Made
-    ensures { λ r. ⌜ reply (verdictPaper (r .answer)) (r .state) ≡ setupReply (recordsIn list) ⌝ }
+    ensures { λ r. ⌜ reply (verdictPaper (r .answer)) (r .state) ≡ setupReply (recordsIn list) terms ⌝ }
 {
     let made = table_of(list, terms);
     let answer = made.answer;
@@ -194,7 +199,7 @@ fn put(c: Copied, f: FlowRecord) -> Copied
 }
 
 fn finished(c: Copied) -> Made
-    ensures { λ r. ⌜ reply (verdictPaper (r .answer)) (r .state) ≡ setupReply (take (c .at) (c .records)) ⌝ }
+    ensures { λ r. ⌜ reply (verdictPaper (r .answer)) (r .state) ≡ setupReply (take (c .at) (c .records)) (c .terms) ⌝ }
 {
     let records = c.records;
     let terms = c.terms;
@@ -207,7 +212,7 @@ fn finished(c: Copied) -> Made
 
 // Setup of a lent list of any length: more than seventeen records are refused as seventeen are.
 pub fn setup(list: &[FlowRecord], terms: Terms) -> Made
-    ensures { λ r. ⌜ reply (verdictPaper (r .answer)) (r .state) ≡ setupReply (now (list .entry)) ⌝ }
+    ensures { λ r. ⌜ reply (verdictPaper (r .answer)) (r .state) ≡ setupReply (now (list .entry)) terms ⌝ }
 {
     let mut c = started(list.len(), terms);
     while c.at < c.todo {

@@ -7,19 +7,20 @@ use borrow.Author.Tests.{ne-eqb, le-leb}
 use lib.Dec.{ltb}
 use lib.ListN.{length}
 use Rattle.io.specs.Digits.{digits, glyph}
-use Rattle.drr.specs.Limits.{leastQuantum, mostQuantum, leastMaximum, mostMaximum}
+use Rattle.drr.specs.Limits.{leastQuantum, mostQuantum, leastMaximum, mostMaximum, mostOverhead}
 use Rattle.drr.specs.declared.FlowRecord.{FlowRecord}
 use Rattle.drr.proofs.Bools.{by-test}
 use Rattle.drr.proofs.Tables.{InRange}
 use Rattle.runfile.specs.File.{Event}
 use Rattle.text.specs.declared.Word.the-variants.{Number}
-use Rattle.text.specs.Text.{places, decimal, spacedText, fieldsText, mostNumber}
+use Rattle.text.specs.Spelt.{spelt}
+use Rattle.text.specs.Text.{places, decimal, spacedText, fieldsText, around, mostNumber}
 use Rattle.text.proofs.Texts.{decimal-length}
 use Rattle.text.proofs.Lines.{fields-parts}
 use Rattle.text.proofs.Words.{decimal-read}
 use Rattle.textform.specs.declared.Want.the-variants as want
-use Rattle.textform.specs.declared.Item.the-variants.{FlowOf, EventOf}
-use Rattle.textform.specs.Grammar.{linesFrom, linesOf, uncommented, ended, wordsFrom, wordsOf, flowWord, eventWord}
+use Rattle.textform.specs.declared.Item.the-variants.{OverheadOf, FlowOf, EventOf}
+use Rattle.textform.specs.Grammar.{linesFrom, linesOf, uncommented, ended, wordsFrom, wordsOf, overheadWord, flowWord, eventWord}
 use Rattle.textform.specs.Grammar.{inRange, field, given, mostOf4, mostOf2, itemIn, itemOf}
 use Rattle.textform.specs.Shown.{flowText, eventText}
 use Rattle.textform.proofs.Drafts.{All, InFields}
@@ -122,11 +123,18 @@ field-read : (least most n : ℕ) → least ≤ n → n ≤ most → n ≤ mostN
 field-read least most n low high fits =
     ap (inRange least most) (decimal-read n fits) ∙ rw (le-leb least n low, le-leb n most high)
 
+abbrev pub overheadLine : ℕ → List ℕ
+overheadLine o = overheadWord ++ spacedText (o ∷ [])
+
 abbrev pub flowLine : FlowRecord → List ℕ
 flowLine r = flowWord ++ spacedText (r .quantum ∷ r .maximum ∷ [])
 
 abbrev pub eventLine : Event → List ℕ
 eventLine e = eventWord ++ spacedText (e .tick ∷ e .flow ∷ e .length ∷ [])
+
+overhead-word : Plain overheadWord
+overhead-word =
+    (omega arith, (omega arith, (omega arith, (omega arith, (omega arith, (omega arith, (omega arith, (omega arith, tt))))))))
 
 flow-word : Plain flowWord
 flow-word = (omega arith, (omega arith, (omega arith, (omega arith, tt))))
@@ -134,11 +142,21 @@ flow-word = (omega arith, (omega arith, (omega arith, (omega arith, tt))))
 event-word : Plain eventWord
 event-word = (omega arith, (omega arith, (omega arith, (omega arith, (omega arith, tt)))))
 
+pub overhead-split : (o : ℕ) (rest : List ℕ) →
+    linesOf (around (spelt "overhead ") o (10 ∷ []) ++ rest) ≡ overheadLine o ∷ linesOf rest
+overhead-split o rest = line-split overheadWord (o ∷ []) overhead-word (omega arith) rest
+
 pub flow-split : (r : FlowRecord) (rest : List ℕ) → linesOf (flowText r ++ rest) ≡ flowLine r ∷ linesOf rest
 flow-split r rest = line-split flowWord (r .quantum ∷ r .maximum ∷ []) flow-word (omega arith) rest
 
 pub event-split : (e : Event) (rest : List ℕ) → linesOf (eventText e ++ rest) ≡ eventLine e ∷ linesOf rest
 event-split e rest = line-split eventWord (e .tick ∷ e .flow ∷ e .length ∷ []) event-word (omega arith) rest
+
+pub overhead-item : (o : ℕ) → o ≤ mostOverhead → itemOf (overheadLine o) ≡ OverheadOf o
+overhead-item o h =
+    let n = field-read 0 mostOverhead o (omega arith) h (omega (arith, h)) in
+    line-item overheadWord (o ∷ []) overhead-word (omega arith)
+    ∙ (λ i. given (n i) want.Overhead (λ a. OverheadOf a))
 
 pub flow-item : (r : FlowRecord) → InRange r → itemOf (flowLine r) ≡ FlowOf (r .quantum) (r .maximum)
 flow-item r h =

@@ -13,8 +13,8 @@ use Rattle.textform.specs.Made.{bytes2, bytes4, flowBytes, eventBytes, e
 use Rattle.textform.specs.Shown.{Bytes}
 
 -- ---- how many bytes there are
-pub header-length : (n m : ℕ) → length (headerBytes n m) ≡ headerSize
-header-length n m = refl
+pub header-length : (n m o : ℕ) → length (headerBytes n m o) ≡ headerSize
+header-length n m o = refl
 
 pub flows-size : (xs : List FlowRecord) → length (each flowBytes xs) ≡ 8 * length xs
 flows-size [] = refl
@@ -28,10 +28,10 @@ pub records-size : (xs : List FlowRecord) (es : List Event) → length (recordBy
 records-size xs es =
     omega (arith, length-append (each flowBytes xs) (each eventBytes es), flows-size xs, events-size es)
 
-pub file-size : (xs : List FlowRecord) (es : List Event) → length (fileOf xs es) ≡ headerSize + 8 * length xs + 8 * length es
+pub file-size : (o : ℕ) (xs : List FlowRecord) (es : List Event) → length (fileOf o xs es) ≡ headerSize + 8 * length xs + 8 * length es
 unfolding fileOf
-file-size xs es =
-    omega (arith, length-append (headerBytes (length xs) (length es)) (recordBytes xs es), records-size xs es)
+file-size o xs es =
+    omega (arith, length-append (headerBytes (length xs) (length es) o) (recordBytes xs es), records-size xs es)
 
 -- ---- reading at i is reading at the start of what follows i
 pub le2-drop : (b : List ℕ) (i j : ℕ) → le2 (drop i b) j ≡ le2 b (i + j)
@@ -183,13 +183,13 @@ pub bytes4-low : (n : ℕ) → n < 4294967296 → Bytes (bytes4 n)
 bytes4-low n h =
     append-low (bytes2 (n % 65536)) (bytes2 (n / 65536)) (bytes2-low (n % 65536) (omega arith)) (bytes2-low (n / 65536) (omega arith))
 
-pub header-low : (n m : ℕ) → n < 65536 → m < 65536 → Bytes (headerBytes n m)
-header-low n m hn hm =
+pub header-low : (n m o : ℕ) → n < 65536 → m < 65536 → o < 4294967296 → Bytes (headerBytes n m o)
+header-low n m o hn hm ho =
     let counts : List ℕ = bytes2 n ++ bytes2 m in
     let flows : List ℕ = counts ++ bytes4 headerSize in
     let events : List ℕ = flows ++ bytes4 (headerSize + 8 * n) in
     let all : List ℕ = events ++ bytes4 (headerSize + 8 * n + 8 * m) in
-    append-low all (bytes4 0)
+    append-low all (bytes4 o)
     (append-low events (bytes4 (headerSize + 8 * n + 8 * m))
     (append-low flows (bytes4 (headerSize + 8 * n))
     (append-low counts (bytes4 headerSize)
@@ -197,7 +197,7 @@ header-low n m hn hm =
     (bytes4-low headerSize (omega arith)))
     (bytes4-low (headerSize + 8 * n) (omega arith)))
     (bytes4-low (headerSize + 8 * n + 8 * m) (omega arith)))
-    (bytes4-low 0 (omega arith))
+    (bytes4-low o ho)
 
 pub flow-low : (x : FlowRecord) → x .quantum < 4294967296 → x .maximum < 4294967296 → Bytes (flowBytes x)
 flow-low x q l = append-low (bytes4 (x .quantum)) (bytes4 (x .maximum)) (bytes4-low (x .quantum) q) (bytes4-low (x .maximum) l)

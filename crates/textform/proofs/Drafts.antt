@@ -9,12 +9,12 @@ use lib.Dec.{ltb, leb, eqb}
 use lib.ListN.{length, take, length-append}
 use lib.Seq.{take-at}
 use Rattle.drr.specs.declared.FlowRecord.{FlowRecord}
-use Rattle.drr.specs.Limits.{mostFlows, mostEvents, leastQuantum, mostQuantum, leastMaximum, mostMaximum}
+use Rattle.drr.specs.Limits.{mostFlows, mostOverhead, mostEvents, leastQuantum, mostQuantum, leastMaximum, mostMaximum}
 use Rattle.drr.specs.Answers.{fine}
-use Rattle.drr.specs.Setup.{tableFor, flowsAnswer}
+use Rattle.drr.specs.Setup.{termsOf, tableFor, flowsAnswer}
 use Rattle.drr.proofs.Bools.{by-test, within-of, and-left, and-right}
 use Rattle.drr.proofs.Tables.{InRange}
-use Rattle.runfile.specs.File.{Event, eventsFrom, flowsIn, eventsIn, ticksAnswer, Sorted, fileAnswer, fileTable}
+use Rattle.runfile.specs.File.{Event, eventsFrom, overheadIn, flowsIn, eventsIn, ticksAnswer, Sorted, fileAnswer, fileTable}
 use Rattle.runfile.specs.Listing.{ticksOf, lastOf}
 use Rattle.text.specs.declared.Word.{Word}
 use Rattle.text.specs.declared.Word.the-variants.{Number, NoNumber}
@@ -22,16 +22,18 @@ use Rattle.text.specs.Text.{same, wordOf, overlaid}
 use Rattle.textform.specs.declared.Want.{Want}
 use Rattle.textform.specs.declared.Want.the-variants as want
 use Rattle.textform.specs.declared.Item.{Item}
-use Rattle.textform.specs.declared.Item.the-variants.{Nothing, FlowOf, EventOf, Wrong}
+use Rattle.textform.specs.declared.Item.the-variants.{Nothing, OverheadOf, FlowOf, EventOf, Wrong}
 use Rattle.textform.specs.declared.Making.the-variants.{File}
-use Rattle.textform.specs.Grammar.{linesOf, uncommented, wordsOf, first, others, flowWord, eventWord, inRange, field, given}
-use Rattle.textform.specs.Grammar.{nothingMore, mostOf4, mostOf2, flowItem, eventItem, itemIn, itemOf}
-use Rattle.textform.specs.Made.{Draft, draft, Step, goes, stops, withFlow, withEvent, judged, Outcome, made, fault, andThen, drafted}
-use Rattle.textform.specs.Made.{mostText, outcomeOf, flowBytes, eventBytes, each, headerBytes, recordBytes, fileOf}
-use Rattle.textform.specs.Made.{bytesIn, madeBytes, makingIn, makingOf, mostMade}
+use Rattle.textform.specs.Grammar.{linesOf, uncommented, wordsOf, first, others, overheadWord, flowWord, eventWord}
+use Rattle.textform.specs.Grammar.{inRange, field, given, nothingMore, mostOf4, mostOf2}
+use Rattle.textform.specs.Grammar.{overheadItem, flowItem, eventItem, itemIn, itemOf}
+use Rattle.textform.specs.Made.{Draft, noRecords, overheadSaid, Step, goes, stops, withOverhead, withFlow, withEvent, judged}
+use Rattle.textform.specs.Made.{Outcome, made, fault, andThen, drafted, mostText, outcomeOf}
+use Rattle.textform.specs.Made.{flowBytes, eventBytes, each, headerBytes, recordBytes, fileOf, bytesIn, madeBytes, makingIn}
+use Rattle.textform.specs.Made.{makingOf, mostMade}
 use Rattle.textform.specs.Shown.{Bytes, FlowsThenEvents}
 use Rattle.textform.proofs.Bytes.{file-size, low2, low4, none-low, append-low, header-low, flow-low, event-low}
-use Rattle.textform.proofs.Files.{no-gaps, header-read, flows-back, events-back}
+use Rattle.textform.proofs.Files.{no-gaps, header-read, overhead-back, flows-back, events-back}
 
 -- ---- what a line can say: numbers in their ranges
 -- an event whose numbers its bytes hold
@@ -42,6 +44,7 @@ pub record InFields (e : Event) : Type 0 where
 
 abbrev pub Says : Item → Type 0
 Says Nothing = Unit {0}
+Says (OverheadOf o) = o ≤ mostOverhead
 Says (FlowOf q l) = InRange (record { quantum = q; maximum = l })
 Says (EventOf t f n) = InFields (record { tick = t; flow = f; length = n })
 Says (Wrong w) = Unit {0}
@@ -70,6 +73,11 @@ end-says : (w : List ℕ) (item : Item) → Says item → Says (nothingMore w it
 end-says [] item h = h
 end-says (b ∷ bs) item h = tt
 
+overhead-says : (ws : List (List ℕ)) → Says (overheadItem ws)
+overhead-says ws =
+    field-says 0 mostOverhead (first ws) want.Overhead _ (λ o _ o1.
+    end-says (first (others ws)) (OverheadOf o) o1)
+
 flow-says : (ws : List (List ℕ)) → Says (flowItem ws)
 flow-says ws =
     field-says leastQuantum mostQuantum (first ws) want.Quantum _ (λ q q0 q1.
@@ -86,8 +94,9 @@ event-says ws =
 words-say : (ws : List (List ℕ)) → Says (itemIn ws)
 words-say [] = tt
 words-say (w ∷ ws) =
+    by-test Says (same w overheadWord) (λ _. overhead-says ws) (λ _.
     by-test Says (same w flowWord) (λ _. flow-says ws) (λ _.
-    by-test Says (same w eventWord) (λ _. event-says ws) (λ _. tt))
+    by-test Says (same w eventWord) (λ _. event-says ws) (λ _. tt)))
 
 pub line-says : (line : List ℕ) → Says (itemOf line)
 unfolding itemOf
@@ -140,6 +149,8 @@ last-more low (x ∷ es) e = last-more (x .tick) es e
 
 -- ---- a draft, line by line
 pub record Good (d : Draft) : Type 0 where
+  pub overheads-few : length (d .overheads) ≤ 1
+  pub overheads-in : All (λ o. o ≤ mostOverhead) (d .overheads)
   pub flows-few : length (d .flows) ≤ mostFlows
   pub flows-in : All InRange (d .flows)
   pub events-few : length (d .events) ≤ mostEvents
@@ -147,17 +158,41 @@ pub record Good (d : Draft) : Type 0 where
   pub sorted : Sorted 0 (d .events)
   pub last-is : d .last ≡ lastOf 0 (ticksOf (d .events))
 
-pub start-good : Good (draft [] [] 0)
-start-good = record { flows-few = omega arith; flows-in = tt; events-few = omega arith; events-in = tt; sorted = tt; last-is = refl }
+pub start-good : Good noRecords
+start-good = record {
+  overheads-few = omega arith;
+  overheads-in = tt;
+  flows-few = omega arith;
+  flows-in = tt;
+  events-few = omega arith;
+  events-in = tt;
+  sorted = tt;
+  last-is = refl;
+}
 
 one-longer : {A : Type 0} (xs : List A) (x : A) (most : ℕ) → length xs < most → length (xs ++ x ∷ []) ≤ most
 one-longer xs x most h = omega (arith, length-append xs (x ∷ []))
+
+overhead-good : (d : Draft) (o : ℕ) → Good d → length (d .overheads) ≤ 0 → o ≤ mostOverhead → Good (withOverhead d o)
+overhead-good d o g none h =
+    record {
+      overheads-few = one-longer (d .overheads) o 1 (omega (arith, none));
+      overheads-in = all-more (λ k. k ≤ mostOverhead) (d .overheads) o (g .overheads-in) h;
+      flows-few = g .flows-few;
+      flows-in = g .flows-in;
+      events-few = g .events-few;
+      events-in = g .events-in;
+      sorted = g .sorted;
+      last-is = g .last-is;
+    }
 
 flow-good : (d : Draft) (q l : ℕ) → Good d → length (d .flows) < mostFlows →
     InRange (record { quantum = q; maximum = l }) → Good (withFlow d q l)
 flow-good d q l g few h =
     let x : FlowRecord = record { quantum = q; maximum = l } in
     record {
+      overheads-few = g .overheads-few;
+      overheads-in = g .overheads-in;
       flows-few = one-longer (d .flows) x mostFlows few;
       flows-in = all-more InRange (d .flows) x (g .flows-in) h;
       events-few = g .events-few;
@@ -171,6 +206,8 @@ event-good : (d : Draft) (t f n : ℕ) → Good d → length (d .events) < mostE
 event-good d t f n g few later h =
     let e : Event = record { tick = t; flow = f; length = n } in
     record {
+      overheads-few = g .overheads-few;
+      overheads-in = g .overheads-in;
       flows-few = g .flows-few;
       flows-in = g .flows-in;
       events-few = one-longer (d .events) e mostEvents few;
@@ -186,6 +223,10 @@ GoodStep (stops w) = Unit {0}
 pub judged-good : (d : Draft) (item : Item) → Good d → Says item → GoodStep (judged d item)
 judged-good d Nothing g h = g
 judged-good d (Wrong w) g h = tt
+judged-good d (OverheadOf o) g h =
+    by-test GoodStep (ltb 0 (length (d .flows))) (λ _. tt) (λ _.
+    by-test GoodStep (ltb 0 (length (d .overheads))) (λ _. tt) (λ none.
+    overhead-good d o g (ltb-false 0 (length (d .overheads)) none) h))
 judged-good d (FlowOf q l) g h =
     by-test GoodStep (ltb 0 (length (d .events))) (λ _. tt) (λ _.
     by-test GoodStep (leb mostFlows (length (d .flows))) (λ _. tt) (λ few.
@@ -216,7 +257,7 @@ drafted-good i d (l ∷ ls) g =
 pub outcome-good : (text : List ℕ) → GoodEnd (outcomeOf text)
 unfolding outcomeOf
 outcome-good text =
-    by-test GoodEnd (ltb mostText (length text)) (λ _. tt) (λ _. drafted-good 0 (draft [] [] 0) (linesOf text) start-good)
+    by-test GoodEnd (ltb mostText (length text)) (λ _. tt) (λ _. drafted-good 0 noRecords (linesOf text) start-good)
 
 pub made-good : (text : List ℕ) (d : Draft) → outcomeOf text ≡ made d → Good d × (1 ≤ length (d .flows))
 made-good text d e = subst GoodEnd e (outcome-good text)
@@ -226,9 +267,19 @@ each-low : {A : Type 0} (P : A → Type 0) (f : A → List ℕ) → ((x : A) →
 each-low P f one [] h = none-low
 each-low P f one (x ∷ xs) h = append-low (f x) (each f xs) (one x (h .0)) (each-low P f one xs (h .1))
 
+said-most : (os : List ℕ) → All (λ o. o ≤ mostOverhead) os → overheadSaid os ≤ mostOverhead
+said-most [] h = omega arith
+said-most (o ∷ os) h = h .0
+
 module _ (d : Draft) (g : Good d) where
+  abbrev overhead : ℕ
+  overhead = overheadSaid (d .overheads)
+
   abbrev file : List ℕ
-  file = fileOf (d .flows) (d .events)
+  file = fileOf overhead (d .flows) (d .events)
+
+  pub overhead-most : overhead ≤ mostOverhead
+  overhead-most = said-most (d .overheads) (g .overheads-in)
 
   flows-low : Bytes (each flowBytes (d .flows))
   flows-low =
@@ -242,49 +293,55 @@ module _ (d : Draft) (g : Good d) where
   file-low : Bytes file
   unfolding fileOf
   file-low =
-      append-low (headerBytes (length (d .flows)) (length (d .events))) (recordBytes (d .flows) (d .events))
-      (header-low (length (d .flows)) (length (d .events)) (omega (arith, g .flows-few)) (omega (arith, g .events-few)))
+      append-low (headerBytes (length (d .flows)) (length (d .events)) overhead) (recordBytes (d .flows) (d .events))
+      (header-low (length (d .flows)) (length (d .events)) overhead (omega (arith, g .flows-few)) (omega (arith, g .events-few))
+      (omega (arith, overhead-most)))
       (append-low (each flowBytes (d .flows)) (each eventBytes (d .events)) flows-low events-low)
 
   file-most : length file ≤ mostMade
-  file-most = omega (arith, file-size (d .flows) (d .events), g .flows-few, g .events-few)
+  file-most = omega (arith, file-size overhead (d .flows) (d .events), g .flows-few, g .events-few)
 
   module _ (some : 1 ≤ length (d .flows)) where
     file-fine : fileAnswer file ≡ fine
     unfolding fileAnswer
     file-fine = rw (
-      header-read (d .flows) (d .events) some (g .flows-few) (g .events-few),
-      flows-back (d .flows) (d .events),
-      events-back (d .flows) (d .events),
+      header-read overhead (d .flows) (d .events) overhead-most some (g .flows-few) (g .events-few),
+      flows-back overhead (d .flows) (d .events),
+      events-back overhead (d .flows) (d .events),
       flows-fine 0 (d .flows) (g .flows-in),
       ticks-fine 0 0 (d .events) (g .sorted),
     )
 
-    file-table : fileTable file ≡ tableFor (d .flows)
+    file-table : fileTable file ≡ tableFor (d .flows) (termsOf overhead)
     unfolding fileTable
-    file-table = rw file-fine (ap tableFor (flows-back (d .flows) (d .events)))
+    file-table =
+        rw file-fine
+        (λ i. tableFor (flows-back overhead (d .flows) (d .events) i) (termsOf (overhead-back overhead (d .flows) (d .events) i)))
 
 -- ---- the file that a text makes
 module _ (text : List ℕ) where
-  -- "what is written is read back as the same table and events"
+  -- "what is written is read back as the same table and events", the overhead with the table
   module _ (d : Draft) (e : outcomeOf text ≡ made d) where
-    made-is : madeBytes text ≡ fileOf (d .flows) (d .events)
+    made-is : madeBytes text ≡ fileOf (overheadSaid (d .overheads)) (d .flows) (d .events)
     unfolding madeBytes
     made-is = ap bytesIn e
 
-    pub made-reads : (fileAnswer (madeBytes text) ≡ fine) × (flowsIn (madeBytes text) ≡ d .flows) × (eventsIn (madeBytes text) ≡ d .events)
+    pub made-reads : (fileAnswer (madeBytes text) ≡ fine) × (overheadIn (madeBytes text) ≡ overheadSaid (d .overheads))
+        × (flowsIn (madeBytes text) ≡ d .flows) × (eventsIn (madeBytes text) ≡ d .events)
     made-reads =
-        let g = made-good text d e in (
+        let g = made-good text d e in
+        let o = overheadSaid (d .overheads) in (
           ap fileAnswer made-is ∙ file-fine d (g .0) (g .1),
-          ap flowsIn made-is ∙ flows-back (d .flows) (d .events),
-          ap eventsIn made-is ∙ events-back (d .flows) (d .events),
+          ap overheadIn made-is ∙ overhead-back o (d .flows) (d .events),
+          ap flowsIn made-is ∙ flows-back o (d .flows) (d .events),
+          ap eventsIn made-is ∙ events-back o (d .flows) (d .events),
         )
 
-    pub made-table : fileTable (madeBytes text) ≡ tableFor (d .flows)
+    pub made-table : fileTable (madeBytes text) ≡ tableFor (d .flows) (termsOf (overheadSaid (d .overheads)))
     made-table = let g = made-good text d e in ap fileTable made-is ∙ file-table d (g .0) (g .1)
 
     pub made-no-gaps : FlowsThenEvents (madeBytes text)
-    made-no-gaps = rw made-is (no-gaps (d .flows) (d .events))
+    made-no-gaps = rw made-is (no-gaps (overheadSaid (d .overheads)) (d .flows) (d .events))
 
   -- its bytes, with a fault or without
   pub made-low : Bytes (madeBytes text)
@@ -318,7 +375,7 @@ module _ (text : List ℕ) where
     made-size = by (outcomeOf text) e
       where
         by : (o : Outcome) → makingIn o ≡ File n → length (bytesIn o) ≡ n
-        by (made d) is = file-size (d .flows) (d .events) ∙ cc
+        by (made d) is = file-size (overheadSaid (d .overheads)) (d .flows) (d .events) ∙ cc
         by (fault i w) is = cc
 
     -- the first n bytes of a buffer that has the file at its start are the file

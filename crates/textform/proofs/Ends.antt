@@ -20,7 +20,7 @@ use Rattle.textform.specs.declared.Want.the-variants as want
 use Rattle.textform.specs.declared.make.Progress.{Progress}
 use Rattle.textform.specs.declared.make.Sort.the-variants.{Inline}
 use Rattle.textform.specs.Grammar.{linesFrom, linesOf, itemOf}
-use Rattle.textform.specs.Made.{Draft, Step, goes, stops, judged, noRecords, Outcome, made, fault, andThen, drafted}
+use Rattle.textform.specs.Made.{Draft, noRecords, overheadSaid, Step, goes, stops, judged, Outcome, made, fault, andThen, drafted}
 use Rattle.textform.specs.Made.{headerBytes, recordBytes, fileOf, mostText, newlines, outcomeOf, mostMade, madeIn, madeOf}
 use Rattle.textform.specs.Needs.{leading, Counted, Fits, Holds, Gone, Finished}
 use Rattle.textform.proofs.Puts.{put-file}
@@ -40,7 +40,7 @@ pub no-flow : (c : Progress) (line : ℕ) (b : List ℕ) (r : Made) → c .flows
 no-flow c line b r e is d k held = is ∙ ap madeIn (ends-none line d (omega (arith, e, k .flows-are)))
 
 pub whole : (c : Progress) (line : ℕ) (b b' : List ℕ) → Fits c b → (c .flows ≡ 0 → ⊥) →
-    b' ≡ sets b 0 (headerBytes (c .flows) (c .events)) →
+    b' ≡ sets b 0 (headerBytes (c .flows) (c .events) (c .overhead)) →
     Finished c line b (record { answer = File (headerSize + 8 * c .flows + 8 * c .events); file = b' })
 whole c line b b' fits some is d k held =
     let none : ℕ = 0 in
@@ -50,12 +50,12 @@ whole c line b b' fits some is d k held =
     let room : headerSize + 8 * n + 8 * m ≤ length zeros =
     omega (arith, k .flows-are, k .events-are, fits .flows-fit, fits .events-fit, length-replicate mostMade none) in
     let y : List ℕ = sets zeros headerSize (recordBytes (d .flows) (d .events)) in
-    let bytes : b' ≡ overlaid (fileOf (d .flows) (d .events)) zeros =
+    let o : ℕ = overheadSaid (d .overheads) in
+    let bytes : b' ≡ overlaid (fileOf o (d .flows) (d .events)) zeros =
     is
-    ∙ ap (λ (x : List ℕ). sets x 0 (headerBytes (c .flows) (c .events))) held
-    ∙ ap (λ (i : ℕ). sets y 0 (headerBytes i (c .events))) (k .flows-are)
-    ∙ ap (λ (i : ℕ). sets y 0 (headerBytes n i)) (k .events-are)
-    ∙ put-file zeros (d .flows) (d .events) room in
+    ∙ ap (λ (x : List ℕ). sets x 0 (headerBytes (c .flows) (c .events) (c .overhead))) held
+    ∙ (λ i. sets y 0 (headerBytes (k .flows-are i) (k .events-are i) (k .overhead-is i)))
+    ∙ put-file zeros (d .flows) o (d .events) room in
     ap (λ (i : ℕ). record { answer = File i; file = b' }) size
     ∙ ap (λ (x : List ℕ). record { answer = File (headerSize + 8 * n + 8 * m); file = x }) bytes
     ∙ ap madeIn (ends-made line d (λ e. some (omega (arith, e, k .flows-are))))
@@ -152,12 +152,12 @@ module _ {text rest : List ℕ} {line : ℕ} {c : Progress} {b : List ℕ} (p : 
       short = omega (arith, h, p .short);
     }
 
-pub start : (text : List ℕ) → Going text text 0 (record { flows = 0; events = 0; last = 0 }) zeros
+pub start : (text : List ℕ) → Going text text 0 (record { overhead = 0; overheads = 0; flows = 0; events = 0; last = 0 }) zeros
 start text =
     let none : ℕ = 0 in
     record {
       so-far = noRecords;
-      counted = record { flows-are = refl; events-are = refl; last-is = refl };
+      counted = record { overhead-is = refl; overheads-are = refl; flows-are = refl; events-are = refl; last-is = refl };
       held = refl;
       fits = record { flows-fit = omega arith; events-fit = omega arith; room = length-replicate mostMade none };
       on = refl;

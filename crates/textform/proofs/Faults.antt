@@ -36,12 +36,15 @@ told line n w words b b' r e is p =
 pub fits : (line : ℕ) (w : Want) → faultWithin line w 80 ≡ faultText line w
 unfolding aroundWithin
 fits line want.Record = refl
+fits line want.Overhead = refl
 fits line want.Quantum = refl
 fits line want.Maximum = refl
 fits line want.Tick = refl
 fits line want.Flow = refl
 fits line want.Length = refl
 fits line want.End = refl
+fits line want.OverheadFirst = refl
+fits line want.OneOverhead = refl
 fits line want.FlowsFirst = refl
 fits line want.EventsOnly = refl
 fits line want.FewerFlows = refl

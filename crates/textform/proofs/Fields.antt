@@ -8,14 +8,15 @@ use borrow.Author.Tests.{leb-true}
 use lib.Dec.{leb}
 use lib.ListN.{length, take, drop}
 use Rattle.drr.proofs.Bools.{and-right}
-use Rattle.drr.specs.Limits.{leastQuantum, mostQuantum, leastMaximum, mostMaximum}
+use Rattle.drr.specs.Limits.{leastQuantum, mostQuantum, leastMaximum, mostMaximum, mostOverhead}
 use Rattle.text.specs.declared.Word.{Word}
 use Rattle.text.specs.declared.Word.the-variants.{Number, NoNumber}
 use Rattle.textform.specs.declared.Want.the-variants as want
 use Rattle.textform.specs.declared.Item.{Item}
-use Rattle.textform.specs.declared.Item.the-variants.{FlowOf, EventOf, Wrong}
+use Rattle.textform.specs.declared.Item.the-variants.{OverheadOf, FlowOf, EventOf, Wrong}
 use Rattle.textform.specs.declared.make.Token.{Token}
-use Rattle.textform.specs.Grammar.{wordsOf, first, others, inRange, field, nothingMore, mostOf4, mostOf2, flowItem, eventItem}
+use Rattle.textform.specs.Grammar.{wordsOf, first, others, inRange, field, nothingMore, mostOf4, mostOf2}
+use Rattle.textform.specs.Grammar.{overheadItem, flowItem, eventItem}
 use Rattle.textform.specs.Needs.{Next}
 use Rattle.textform.proofs.Scans.{word-size}
 
@@ -60,9 +61,16 @@ pub goes-on : {t : List ℕ} {at : ℕ} {k : Token} → Next t at k → (item : 
     Wrong want.End ≡ nothingMore (first (wordsOf (drop at t))) item
 goes-on {t} {at} p item h = some-byte (first (wordsOf (drop at t))) item (omega (arith, word-size p, p .ordered, h))
 
--- ---- the fields of a flow and of an event, one after the other
+-- ---- the fields of the overhead, of a flow and of an event, one after the other
 abbrev Words : Type 0
 Words = List (List ℕ)
+
+pub no-overhead : (ws : Words) → field 0 mostOverhead (first ws) ≡ NoNumber → Wrong want.Overhead ≡ overheadItem ws
+no-overhead ws e = sym (rw e)
+
+pub whole-overhead : (ws : Words) (o : ℕ) → field 0 mostOverhead (first ws) ≡ Number o →
+    nothingMore (first (others ws)) (OverheadOf o) ≡ overheadItem ws
+whole-overhead ws o e = sym (rw e)
 
 pub no-quantum : (ws : Words) → field leastQuantum mostQuantum (first ws) ≡ NoNumber → Wrong want.Quantum ≡ flowItem ws
 no-quantum ws e = sym (rw e)

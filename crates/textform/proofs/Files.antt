@@ -9,9 +9,9 @@ use lib.Dec.{leb, eqb}
 use lib.ListN.{length, drop, length-drop, drop-of-length-le}
 use lib.Seq.{drop-at, drop-drop}
 use Rattle.drr.specs.declared.FlowRecord.{FlowRecord}
-use Rattle.drr.specs.Limits.{mostFlows, mostEvents}
+use Rattle.drr.specs.Limits.{mostFlows, mostOverhead, mostEvents}
 use Rattle.drr.specs.Answers.{Answer, fine}
-use Rattle.runfile.specs.File.{Event, headerSize, flowCount, eventCount, flowOffset, eventOffset, statedLength, reserved}
+use Rattle.runfile.specs.File.{Event, headerSize, flowCount, eventCount, flowOffset, eventOffset, statedLength, overheadIn}
 use Rattle.runfile.specs.File.{mostBytes, flowsFrom, eventsFrom, flowsIn, eventsIn, tablesb, headerAnswer}
 use Rattle.drr.proofs.Bools.{and-both, or-inl, or-inr}
 use Rattle.runfile.proofs.Files.{passed, laid-fine, flows-length}
@@ -26,7 +26,7 @@ module _ (b : List ℕ) (low : Bytes b) where
   -- the header, number by number
   header-parts : headerSize ≤ length b →
       bytes2 (flowCount b) ++ bytes2 (eventCount b) ++ bytes4 (flowOffset b) ++ bytes4 (eventOffset b) ++ bytes4 (statedLength b)
-      ++ bytes4 (reserved b) ++ drop headerSize b ≡ b
+      ++ bytes4 (overheadIn b) ++ drop headerSize b ≡ b
   header-parts h =
       let n = bytes2 (flowCount b) in
       let m = bytes2 (eventCount b) in
@@ -62,15 +62,14 @@ module _ (b : List ℕ) (low : Bytes b) where
     long : headerSize ≤ length b
     long = laid-fine b ok .long
 
-    header-again : headerBytes (flowCount b) (eventCount b) ++ drop headerSize b ≡ b
+    header-again : headerBytes (flowCount b) (eventCount b) (overheadIn b) ++ drop headerSize b ≡ b
     header-again =
         let p = passed b (ap (λ (a : Answer). a .refusal) ok) in
         let n = bytes2 (flowCount b) in
         let m = bytes2 (eventCount b) in
         let stated : statedLength b ≡ length b = eqb-true (statedLength b) (length b) (not-false _ (p .stated)) in
-        let zeroed : reserved b ≡ 0 = eqb-true (reserved b) 0 (not-false _ (p .zeroed)) in
         (λ j. n ++ m ++ bytes4 (sym (w .flows-first) j) ++ bytes4 (sym (w .events-next) j)
-        ++ bytes4 (sym (stated ∙ w .nothing-more) j) ++ bytes4 (sym zeroed j) ++ drop headerSize b)
+        ++ bytes4 (sym (stated ∙ w .nothing-more) j) ++ bytes4 (overheadIn b) ++ drop headerSize b)
         ∙ header-parts long
 
     flows-part : each flowBytes (flowsIn b) ++ drop (eventOffset b) b ≡ drop headerSize b
@@ -87,13 +86,13 @@ module _ (b : List ℕ) (low : Bytes b) where
         ∙ ap (λ (l : List ℕ). each eventBytes (eventsIn b) ++ l) (sym (drop-of-length-le b all))
         ∙ events-at (eventOffset b) (eventCount b) (laid-fine b ok .events-inside)
 
-    pub file-again : fileOf (flowsIn b) (eventsIn b) ≡ b
+    pub file-again : fileOf (overheadIn b) (flowsIn b) (eventsIn b) ≡ b
     unfolding fileOf
     file-again =
         let n = flows-length (drop (flowOffset b) b) 0 (flowCount b) in
         let m = events-length (drop (eventOffset b) b) 0 (eventCount b) in
-        (λ j. headerBytes (n j) (m j) ++ (each flowBytes (flowsIn b) ++ events-part j))
-        ∙ ap (λ (l : List ℕ). headerBytes (flowCount b) (eventCount b) ++ l) flows-part
+        (λ j. headerBytes (n j) (m j) (overheadIn b) ++ (each flowBytes (flowsIn b) ++ events-part j))
+        ∙ ap (λ (l : List ℕ). headerBytes (flowCount b) (eventCount b) (overheadIn b) ++ l) flows-part
         ∙ header-again
 
 -- ---- a header that tells of tables without gaps has no fault
@@ -108,10 +107,10 @@ tables-fine n m fo eo size first next end =
     (or-inl (eqb n 0 || eqb m 0 || leb (fo + 8 * n) eo) (leb (eo + 8 * m) fo)
     (or-inr (eqb n 0 || eqb m 0) (leb (fo + 8 * n) eo) (le-leb (fo + 8 * n) eo (omega arith))))
 
-header-ok : (b : List ℕ) → FlowsThenEvents b → statedLength b ≡ length b → reserved b ≡ 0 → 1 ≤ flowCount b → flowCount b ≤ mostFlows →
-    eventCount b ≤ mostEvents → headerAnswer b ≡ fine
+header-ok : (b : List ℕ) → FlowsThenEvents b → statedLength b ≡ length b → overheadIn b ≤ mostOverhead → 1 ≤ flowCount b →
+    flowCount b ≤ mostFlows → eventCount b ≤ mostEvents → headerAnswer b ≡ fine
 unfolding headerAnswer
-header-ok b w stated zeroed some few events =
+header-ok b w stated small some few events =
     let n = flowCount b in
     let m = eventCount b in
     rw (
@@ -120,16 +119,16 @@ header-ok b w stated zeroed some few events =
       le-ltb (length b) headerSize (omega (arith, w .nothing-more)),
       le-ltb mostBytes (length b) (omega (arith, w .nothing-more)),
       eq-eqb (statedLength b) (length b) stated,
-      eq-eqb (reserved b) 0 zeroed,
+      le-ltb mostOverhead (overheadIn b) small,
       ne-eqb n 0 (λ e. omega arith),
       le-ltb mostFlows n few,
       le-ltb mostEvents m events,
     )
 
 -- ---- the file of some records
-module _ (xs : List FlowRecord) (es : List Event) where
+module _ (o : ℕ) (xs : List FlowRecord) (es : List Event) where
   abbrev file : List ℕ
-  file = fileOf xs es
+  file = fileOf o xs es
 
   pub flow-count : flowCount file ≡ length xs
   unfolding fileOf
@@ -151,21 +150,21 @@ module _ (xs : List FlowRecord) (es : List Event) where
   unfolding fileOf
   stated-length = read4 (headerSize + 8 * length xs + 8 * length es) []
 
-  no-reserve : reserved file ≡ 0
+  pub overhead-back : overheadIn file ≡ o
   unfolding fileOf
-  no-reserve = refl
+  overhead-back = read4 o []
 
   pub no-gaps : FlowsThenEvents file
   no-gaps = record {
     flows-first = flow-offset;
     events-next = event-offset ∙ ap (λ (n : ℕ). headerSize + 8 * n) (sym flow-count);
-    nothing-more = file-size xs es ∙ (λ j. headerSize + 8 * sym flow-count j + 8 * sym event-count j);
+    nothing-more = file-size o xs es ∙ (λ j. headerSize + 8 * sym flow-count j + 8 * sym event-count j);
   }
 
-  pub header-read : 1 ≤ length xs → length xs ≤ mostFlows → length es ≤ mostEvents → headerAnswer file ≡ fine
-  header-read some few events =
-      header-ok file no-gaps (stated-length ∙ sym (file-size xs es)) no-reserve (omega (arith, flow-count)) (omega (arith, flow-count))
-      (omega (arith, event-count))
+  pub header-read : o ≤ mostOverhead → 1 ≤ length xs → length xs ≤ mostFlows → length es ≤ mostEvents → headerAnswer file ≡ fine
+  header-read small some few events =
+      header-ok file no-gaps (stated-length ∙ sym (file-size o xs es)) (omega (arith, overhead-back)) (omega (arith, flow-count))
+      (omega (arith, flow-count)) (omega (arith, event-count))
 
   tables-at : drop headerSize file ≡ recordBytes xs es
   unfolding fileOf

@@ -11,7 +11,8 @@ use Rattle.text.specs.Text.{same}
 use Rattle.textform.specs.declared.Want.the-variants as want
 use Rattle.textform.specs.declared.Item.the-variants.{Wrong}
 use Rattle.textform.specs.declared.make.Sort.the-variants.{Uncommented}
-use Rattle.textform.specs.Grammar.{uncommented, first, others, flowWord, eventWord, flowItem, eventItem, itemIn}
+use Rattle.textform.specs.Grammar.{uncommented, first, others, overheadWord, flowWord, eventWord}
+use Rattle.textform.specs.Grammar.{overheadItem, flowItem, eventItem, itemIn}
 use Rattle.textform.specs.Needs.{leading}
 
 -- ---- comments
@@ -24,15 +25,20 @@ before-comment (x ∷ xs) =
 abbrev Words : Type 0
 Words = List (List ℕ)
 
-pub flow-first : (ws : Words) → same (first ws) flowWord ≡ true → flowItem (others ws) ≡ itemIn ws
-flow-first [] e = absurd (false≢true e)
-flow-first (w ∷ ws) e = sym (rw e)
+pub overhead-first : (ws : Words) → same (first ws) overheadWord ≡ true → overheadItem (others ws) ≡ itemIn ws
+overhead-first [] e = absurd (false≢true e)
+overhead-first (w ∷ ws) e = sym (rw e)
 
-pub event-first : (ws : Words) → same (first ws) flowWord ≡ false → same (first ws) eventWord ≡ true → eventItem (others ws) ≡ itemIn ws
-event-first [] f e = absurd (false≢true e)
-event-first (w ∷ ws) f e = sym (rw (f, e))
+pub flow-first : (ws : Words) → same (first ws) overheadWord ≡ false → same (first ws) flowWord ≡ true → flowItem (others ws) ≡ itemIn ws
+flow-first [] o e = absurd (false≢true e)
+flow-first (w ∷ ws) o e = sym (rw (o, e))
 
-pub neither : (ws : Words) → (length (first ws) ≡ 0 → ⊥) → same (first ws) flowWord ≡ false → same (first ws) eventWord ≡ false →
-    Wrong want.Record ≡ itemIn ws
-neither [] h f e = absurd (h refl)
-neither (w ∷ ws) h f e = sym (rw (f, e))
+pub event-first : (ws : Words) → same (first ws) overheadWord ≡ false → same (first ws) flowWord ≡ false →
+    same (first ws) eventWord ≡ true → eventItem (others ws) ≡ itemIn ws
+event-first [] o f e = absurd (false≢true e)
+event-first (w ∷ ws) o f e = sym (rw (o, f, e))
+
+pub no-record : (ws : Words) → (length (first ws) ≡ 0 → ⊥) → same (first ws) overheadWord ≡ false → same (first ws) flowWord ≡ false →
+    same (first ws) eventWord ≡ false → Wrong want.Record ≡ itemIn ws
+no-record [] h o f e = absurd (h refl)
+no-record (w ∷ ws) h o f e = sym (rw (o, f, e))

@@ -68,8 +68,8 @@ module _ (z : List ℕ) (xs : List FlowRecord) where
       ∙ put-more z (recordBytes xs es) (eventBytes x)
       ∙ ap (sets z headerSize) (sym (event-more xs es x))
 
-  pub put-file : (es : List Event) → headerSize + 8 * length xs + 8 * length es ≤ length z →
-      sets (put es) 0 (headerBytes (length xs) (length es)) ≡ overlaid (fileOf xs es) z
+  pub put-file : (o : ℕ) (es : List Event) → headerSize + 8 * length xs + 8 * length es ≤ length z →
+      sets (put es) 0 (headerBytes (length xs) (length es) o) ≡ overlaid (fileOf o xs es) z
   unfolding fileOf
-  put-file es room =
-      put-header z (headerBytes (length xs) (length es)) (recordBytes xs es) refl (omega (arith, records-size xs es))
+  put-file o es room =
+      put-header z (headerBytes (length xs) (length es) o) (recordBytes xs es) refl (omega (arith, records-size xs es))

@@ -14,18 +14,60 @@ use Rattle.text.proofs.Texts.{sets-two}
 use Rattle.textform.specs.declared.make.Progress.{Progress}
 use Rattle.textform.specs.declared.make.Put.the-variants.{Goes, Stops}
 use Rattle.textform.specs.declared.Want.the-variants as want
-use Rattle.textform.specs.declared.Item.the-variants.{Nothing, FlowOf, EventOf}
-use Rattle.textform.specs.Made.{draft, flowOf, eventOf, withFlow, withEvent, flowBytes, eventBytes, recordBytes}
+use Rattle.textform.specs.declared.Item.the-variants.{Nothing, OverheadOf, FlowOf, EventOf}
+use Rattle.textform.specs.Made.{draft, overheadSaid, flowOf, eventOf, withOverhead, withFlow, withEvent}
+use Rattle.textform.specs.Made.{flowBytes, eventBytes, recordBytes}
 use Rattle.textform.specs.Needs.{Fits, Holds, Stepped}
 use Rattle.textform.proofs.Puts.{put-flow, put-event}
 
-abbrev counts : ℕ → ℕ → ℕ → Progress
-counts flows events last = record { flows = flows; events = events; last = last }
+-- as they were, but for the records
+abbrev counts : Progress → ℕ → ℕ → ℕ → Progress
+counts c flows events last =
+    record { overhead = c .overhead; overheads = c .overheads; flows = flows; events = events; last = last }
+
+-- .. and but for the overhead
+abbrev told : Progress → ℕ → Progress
+told c o =
+    record { overhead = o; overheads = c .overheads + 1; flows = c .flows; events = c .events; last = c .last }
 
 module _ (c : Progress) (b b' : List ℕ) (fits : Fits c b) where
   -- ---- a line without a record
   pub no-record : Stepped c Nothing b b (Goes c)
   no-record z d k held = record { next = d; goes-to = refl; next-counted = k; next-held = held; next-fits = fits }
+
+  -- ---- the overhead
+  module _ (o : ℕ) where
+    pub overhead-first : 0 < c .flows → Stepped c (OverheadOf o) b b' (Stops want.OverheadFirst)
+    overhead-first h d k = rw (lt-ltb 0 (length (d .flows)) (omega (arith, h, k .flows-are)))
+
+    module _ (none : c .flows ≤ 0) where
+      pub second-overhead : 0 < c .overheads → Stepped c (OverheadOf o) b b' (Stops want.OneOverhead)
+      second-overhead h d k = rw (
+        le-ltb 0 (length (d .flows)) (omega (arith, none, k .flows-are)),
+        lt-ltb 0 (length (d .overheads)) (omega (arith, h, k .overheads-are)),
+      )
+
+      pub one-overhead : c .overheads ≤ 0 → Stepped c (OverheadOf o) b b (Goes (told c o))
+      one-overhead h z d k held = record {
+        next = withOverhead d o;
+        goes-to = rw (
+          le-ltb 0 (length (d .flows)) (omega (arith, none, k .flows-are)),
+          le-ltb 0 (length (d .overheads)) (omega (arith, h, k .overheads-are)),
+        );
+        next-counted = record {
+          overhead-is = by (d .overheads) (omega (arith, h, k .overheads-are));
+          overheads-are = omega (arith, k .overheads-are, length-append (d .overheads) (o ∷ []));
+          flows-are = k .flows-are;
+          events-are = k .events-are;
+          last-is = k .last-is;
+        };
+        next-held = held;
+        next-fits = record { flows-fit = fits .flows-fit; events-fit = fits .events-fit; room = fits .room };
+      }
+        where
+          by : (os : List ℕ) → length os ≡ 0 → o ≡ overheadSaid (os ++ o ∷ [])
+          by [] e = refl
+          by (x ∷ os) e = absurd (omega arith)
 
   -- ---- a flow
   module _ (q l : ℕ) where
@@ -40,7 +82,7 @@ module _ (c : Progress) (b b' : List ℕ) (fits : Fits c b) where
       )
 
       pub one-flow : c .flows < mostFlows → b' ≡ sets b (headerSize + 8 * c .flows) (flowBytes (flowOf q l)) →
-          Stepped c (FlowOf q l) b b' (Goes (counts (c .flows + 1) (c .events) (c .last)))
+          Stepped c (FlowOf q l) b b' (Goes (counts c (c .flows + 1) (c .events) (c .last)))
       one-flow h is z d k held = record {
         next = withFlow d q l;
         goes-to = rw (
@@ -48,6 +90,8 @@ module _ (c : Progress) (b b' : List ℕ) (fits : Fits c b) where
           lt-leb mostFlows (length (d .flows)) (omega (arith, h, k .flows-are)),
         );
         next-counted = record {
+          overhead-is = k .overhead-is;
+          overheads-are = k .overheads-are;
           flows-are = omega (arith, k .flows-are, length-append (d .flows) (flowOf q l ∷ []));
           events-are = k .events-are;
           last-is = k .last-is;
@@ -62,7 +106,7 @@ module _ (c : Progress) (b b' : List ℕ) (fits : Fits c b) where
         };
       }
         where
-          by : (xs : List FlowRecord) (es : List Event) → Holds z (draft xs es 0) b → length es ≡ 0 →
+          by : (xs : List FlowRecord) (es : List Event) → Holds z (draft [] xs es 0) b → length es ≡ 0 →
               sets b (headerSize + 8 * length xs) (flowBytes (flowOf q l)) ≡ sets z headerSize (recordBytes (xs ++ flowOf q l ∷ []) es)
           by xs [] held e = ap (λ (y : List ℕ). sets y (headerSize + 8 * length xs) (flowBytes (flowOf q l))) held ∙ put-flow z xs
               (flowOf q l)
@@ -89,7 +133,7 @@ module _ (c : Progress) (b b' : List ℕ) (fits : Fits c b) where
         )
 
         pub one-event : c .last ≤ t → b' ≡ sets b (headerSize + 8 * c .flows + 8 * c .events) (eventBytes (eventOf t f n)) →
-            Stepped c (EventOf t f n) b b' (Goes (counts (c .flows) (c .events + 1) t))
+            Stepped c (EventOf t f n) b b' (Goes (counts c (c .flows) (c .events + 1) t))
         one-event h is z d k held = record {
           next = withEvent d t f n;
           goes-to = rw (
@@ -98,6 +142,8 @@ module _ (c : Progress) (b b' : List ℕ) (fits : Fits c b) where
             le-ltb t (d .last) (omega (arith, h, k .last-is)),
           );
           next-counted = record {
+            overhead-is = k .overhead-is;
+            overheads-are = k .overheads-are;
             flows-are = k .flows-are;
             events-are = omega (arith, k .events-are, length-append (d .events) (eventOf t f n ∷ []));
             last-is = refl;

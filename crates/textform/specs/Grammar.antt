@@ -3,7 +3,7 @@ use mathlib.Core.Bool.{Bool, cond, _&&_, _||_}
 use mathlib.Core.List.{List, [], _∷_, _++_}
 use Prim.Native.Nat.{ℕ}
 use lib.Dec.{eqb, leb}
-use Rattle.drr.specs.Limits.{leastQuantum, mostQuantum, leastMaximum, mostMaximum}
+use Rattle.drr.specs.Limits.{leastQuantum, mostQuantum, leastMaximum, mostMaximum, mostOverhead}
 use Rattle.text.specs.declared.Word.{Word}
 use Rattle.text.specs.declared.Word.the-variants.{Number, NoNumber}
 use Rattle.text.specs.Spelt.{spelt}
@@ -11,7 +11,7 @@ use Rattle.text.specs.Text.{same, wordOf}
 use Rattle.textform.specs.declared.Want.{Want}
 use Rattle.textform.specs.declared.Want.the-variants as want
 use Rattle.textform.specs.declared.Item.{Item}
-use Rattle.textform.specs.declared.Item.the-variants.{Nothing, FlowOf, EventOf, Wrong}
+use Rattle.textform.specs.declared.Item.the-variants.{Nothing, OverheadOf, FlowOf, EventOf, Wrong}
 
 -- ---- lines and words
 -- the lines of a text, parted by newlines (10), where w has been read of the line at hand; what follows the last newline is a line too
@@ -55,6 +55,9 @@ others (w ∷ ws) = ws
 
 -- ---- records
 -- the words that a record begins with
+abbrev pub overheadWord : List ℕ
+overheadWord = spelt "overhead"
+
 abbrev pub flowWord : List ℕ
 flowWord = spelt "flow"
 
@@ -86,6 +89,12 @@ mostOf4 = 4294967295
 abbrev pub mostOf2 : ℕ
 mostOf2 = 65535
 
+-- `overhead BYTES`: the words behind `overhead`
+abbrev pub overheadItem : List (List ℕ) → Item
+overheadItem ws =
+    given (field 0 mostOverhead (first ws)) want.Overhead (λ o.
+    nothingMore (first (others ws)) (OverheadOf o))
+
 -- `flow QUANTUM MAXIMUM`: the words behind `flow`
 abbrev pub flowItem : List (List ℕ) → Item
 flowItem ws =
@@ -104,7 +113,11 @@ eventItem ws =
 -- what these words say
 abbrev pub itemIn : List (List ℕ) → Item
 itemIn [] = Nothing
-itemIn (w ∷ ws) = cond (same w flowWord) (flowItem ws) (cond (same w eventWord) (eventItem ws) (Wrong want.Record))
+itemIn (w ∷ ws) =
+    cond (same w overheadWord) (overheadItem ws)
+    (cond (same w flowWord) (flowItem ws)
+    (cond (same w eventWord) (eventItem ws)
+    (Wrong want.Record)))
 
 -- what a line says
 unfoldable pub itemOf : List ℕ → Item

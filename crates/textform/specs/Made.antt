@@ -13,24 +13,30 @@ use Rattle.text.specs.Text.{overlaid}
 use Rattle.textform.specs.declared.Want.{Want}
 use Rattle.textform.specs.declared.Want.the-variants as want
 use Rattle.textform.specs.declared.Item.{Item}
-use Rattle.textform.specs.declared.Item.the-variants.{Nothing, FlowOf, EventOf, Wrong}
+use Rattle.textform.specs.declared.Item.the-variants.{Nothing, OverheadOf, FlowOf, EventOf, Wrong}
 use Rattle.textform.specs.declared.Made.{Made}
 use Rattle.textform.specs.declared.Making.{Making}
 use Rattle.textform.specs.declared.Making.the-variants.{File, Fault}
 use Rattle.textform.specs.Grammar.{linesOf, itemOf}
 
 -- ---- the records of a text, line by line
--- the records so far, and the tick of the last event, 0 before any
+-- the records so far, and the tick of the last event, 0 before any; of the overhead a text says at most one number
 pub record Draft : Type 0 where
+  pub overheads : List ℕ
   pub flows : List FlowRecord
   pub events : List Event
   pub last : ℕ
 
-abbrev pub draft : List FlowRecord → List Event → ℕ → Draft
-draft flows events last = record { flows = flows; events = events; last = last }
+abbrev pub draft : List ℕ → List FlowRecord → List Event → ℕ → Draft
+draft overheads flows events last = record { overheads = overheads; flows = flows; events = events; last = last }
 
 abbrev pub noRecords : Draft
-noRecords = draft [] [] 0
+noRecords = draft [] [] [] 0
+
+-- the table's overhead: the number that was said, 0 where it is left out
+abbrev pub overheadSaid : List ℕ → ℕ
+overheadSaid [] = 0
+overheadSaid (o ∷ os) = o
 
 abbrev pub flowOf : ℕ → ℕ → FlowRecord
 flowOf q l = record { quantum = q; maximum = l }
@@ -43,16 +49,24 @@ pub data Step : Type 0 where
   goes : Draft → Step
   stops : Want → Step
 
+abbrev pub withOverhead : Draft → ℕ → Draft
+withOverhead d o = draft (d .overheads ++ o ∷ []) (d .flows) (d .events) (d .last)
+
 abbrev pub withFlow : Draft → ℕ → ℕ → Draft
-withFlow d q l = draft (d .flows ++ flowOf q l ∷ []) (d .events) (d .last)
+withFlow d q l = draft (d .overheads) (d .flows ++ flowOf q l ∷ []) (d .events) (d .last)
 
 abbrev pub withEvent : Draft → ℕ → ℕ → ℕ → Draft
-withEvent d t f n = draft (d .flows) (d .events ++ eventOf t f n ∷ []) t
+withEvent d t f n = draft (d .overheads) (d .flows) (d .events ++ eventOf t f n ∷ []) t
 
--- flows come before events, 16 at most; then events, 1,024 at most, and their ticks never fall
+-- the overhead comes before the flows, at most once; flows come before events, 16 at most; then events, 1,024 at most, and their ticks
+-- never fall
 abbrev pub judged : Draft → Item → Step
 judged d Nothing = goes d
 judged d (Wrong w) = stops w
+judged d (OverheadOf o) =
+    cond (ltb 0 (length (d .flows))) (stops want.OverheadFirst)
+    (cond (ltb 0 (length (d .overheads))) (stops want.OneOverhead)
+    (goes (withOverhead d o)))
 judged d (FlowOf q l) =
     cond (ltb 0 (length (d .events))) (stops want.EventsOnly)
     (cond (leb mostFlows (length (d .flows))) (stops want.FewerFlows)
@@ -111,20 +125,21 @@ each f [] = []
 each f (x ∷ xs) = f x ++ each f xs
 
 -- "flow count (2 bytes), event count (2), offset of the flow table (4), offset of the event table (4), file length (4), reserved, zero
--- (4)": the flow table stands behind the header, the event table behind it, and the file ends there
-abbrev pub headerBytes : ℕ → ℕ → List ℕ
-headerBytes n m =
-    bytes2 n ++ bytes2 m ++ bytes4 headerSize ++ bytes4 (headerSize + 8 * n) ++ bytes4 (headerSize + 8 * n + 8 * m) ++ bytes4 0
+-- (4)", and E2: "The run file's reserved field becomes the overhead." The flow table stands behind the header, the event table behind
+-- it, and the file ends there
+abbrev pub headerBytes : ℕ → ℕ → ℕ → List ℕ
+headerBytes n m overhead =
+    bytes2 n ++ bytes2 m ++ bytes4 headerSize ++ bytes4 (headerSize + 8 * n) ++ bytes4 (headerSize + 8 * n + 8 * m) ++ bytes4 overhead
 
 abbrev pub recordBytes : List FlowRecord → List Event → List ℕ
 recordBytes flows events = each flowBytes flows ++ each eventBytes events
 
-unfoldable pub fileOf : List FlowRecord → List Event → List ℕ
-fileOf flows events = headerBytes (length flows) (length events) ++ recordBytes flows events
+unfoldable pub fileOf : ℕ → List FlowRecord → List Event → List ℕ
+fileOf overhead flows events = headerBytes (length flows) (length events) overhead ++ recordBytes flows events
 
 -- the bytes that a text makes; none where it has a fault
 abbrev pub bytesIn : Outcome → List ℕ
-bytesIn (made d) = fileOf (d .flows) (d .events)
+bytesIn (made d) = fileOf (overheadSaid (d .overheads)) (d .flows) (d .events)
 bytesIn (fault i w) = []
 
 unfoldable pub madeBytes : List ℕ → List ℕ

@@ -23,7 +23,7 @@ use Rattle.textform.specs.declared.Item.{Item}
 use Rattle.textform.specs.declared.Made.{Made}
 use Rattle.textform.specs.Grammar.{blankb, wordsOf, first, others, field}
 use Rattle.textform.specs.Words.{expected}
-use Rattle.textform.specs.Made.{Draft, Step, goes, stops, judged, drafted, recordBytes, mostMade, madeIn}
+use Rattle.textform.specs.Made.{Draft, overheadSaid, Step, goes, stops, judged, drafted, recordBytes, mostMade, madeIn}
 
 -- whether a byte is of this sort: of a line, before its comment, between words, of a word
 abbrev pub ofSort : Sort → ℕ → Bool
@@ -51,8 +51,10 @@ pub record ReadAt (t : List ℕ) (at least most : ℕ) (r : Read) : Type 0 where
   pub number-is : r .said ≡ field least most (first (wordsOf (drop at t)))
   pub number-behind : wordsOf (drop (r .to) t) ≡ others (wordsOf (drop at t))
 
--- the counts are those of the draft
+-- the overhead and the counts are those of the draft
 pub record Counted (c : Progress) (d : Draft) : Type 0 where
+  pub overhead-is : c .overhead ≡ overheadSaid (d .overheads)
+  pub overheads-are : c .overheads ≡ length (d .overheads)
   pub flows-are : c .flows ≡ length (d .flows)
   pub events-are : c .events ≡ length (d .events)
   pub last-is : c .last ≡ d .last
@@ -79,6 +81,10 @@ abbrev pub Stepped : Progress → Item → List ℕ → List ℕ → Put → Typ
 Stepped c item b b' (Stops w) = (d : Draft) → Counted c d → judged d item ≡ stops w
 Stepped c item b b' (Goes c') = (z : List ℕ) (d : Draft) → Counted c d → Holds z d b → Gone z c' b' (judged d item)
 
+-- .. of a line that leaves the file as it is
+abbrev pub SteppedAside : Progress → Item → Put → Type 0
+SteppedAside c item r = (b : List ℕ) → Fits c b → Stepped c item b b r
+
 -- the records of a draft are all of a text
 abbrev pub Finished : Progress → ℕ → List ℕ → Made → Type 0
 Finished c line b r = (d : Draft) → Counted c d → Holds (replicate mostMade 0) d b → r ≡ madeIn (drafted line d [])
@@ -88,12 +94,15 @@ Finished c line b r = (d : Draft) → Counted c d → Holds (replicate mostMade 
 abbrev pub everyWord : List ℕ
 everyWord =
     expected want.Record ++
+    expected want.Overhead ++
     expected want.Quantum ++
     expected want.Maximum ++
     expected want.Tick ++
     expected want.Flow ++
     expected want.Length ++
     expected want.End ++
+    expected want.OverheadFirst ++
+    expected want.OneOverhead ++
     expected want.FlowsFirst ++
     expected want.EventsOnly ++
     expected want.FewerFlows ++

@@ -8,13 +8,16 @@ use Rattle.textform.specs.declared.Want.{Want}
 use Rattle.textform.specs.declared.Want.the-variants as want
 
 abbrev pub inWords : Want → String
-inWords want.Record = "flow or event"
+inWords want.Record = "overhead, flow or event"
+inWords want.Overhead = "an overhead, 0 to 64"
 inWords want.Quantum = "a quantum, 1 to 65535"
 inWords want.Maximum = "a maximum, 1 to 9216"
 inWords want.Tick = "a tick, 0 to 4294967295"
 inWords want.Flow = "a flow, 0 to 65535"
 inWords want.Length = "a length, 0 to 65535"
 inWords want.End = "the end of the line"
+inWords want.OverheadFirst = "the overhead before the flows"
+inWords want.OneOverhead = "at most one overhead"
 inWords want.FlowsFirst = "a flow before any event"
 inWords want.EventsOnly = "an event: flows come first"
 inWords want.FewerFlows = "at most 16 flows"

@@ -6,12 +6,15 @@ pub mod told;
 // What was expected where a text has a fault.
 pub enum Want {
     Record,
+    Overhead,
     Quantum,
     Maximum,
     Tick,
     Flow,
     Length,
     End,
+    OverheadFirst,
+    OneOverhead,
     FlowsFirst,
     EventsOnly,
     FewerFlows,
@@ -20,10 +23,11 @@ pub enum Want {
     Shorter,
 }
 
-// What a line says: nothing, a flow's quantum and maximum, an event's tick, flow and length, or
-// something else than was expected.
+// What a line says: nothing, the table's overhead, a flow's quantum and maximum, an event's tick, flow and
+// length, or something else than was expected.
 pub enum Item {
     Nothing,
+    OverheadOf(u32),
     FlowOf(u32, u32),
     EventOf(u32, u16, u16),
     Wrong(Want),

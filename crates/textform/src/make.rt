@@ -10,14 +10,16 @@ ghost use Prim.Native.Nat.{_+_, _≤_};
 ghost use lib.ListN.{length, drop};
 ghost use lib.Seq.{sets};
 ghost use Rattle.textform.specs.Grammar.{linesOf, wordsOf, first, field as fieldOf};
-ghost use Rattle.textform.specs.Grammar.{nothingMore, flowItem, eventItem, itemIn, itemOf};
-ghost use Rattle.textform.specs.declared.Item.the-variants.{FlowOf, EventOf};
+ghost use Rattle.textform.specs.Grammar.{nothingMore, overheadItem, flowItem, eventItem, itemIn, itemOf};
+ghost use Rattle.textform.specs.declared.Item.the-variants.{OverheadOf, FlowOf, EventOf};
 ghost use Rattle.textform.specs.Made.{flowOf, eventOf, bytes2, bytes4, flowBytes, eventBytes, headerBytes, newlines as newlinesIn};
 ghost use Rattle.textform.specs.Made.{noRecords, fault, drafted, mostText, madeIn, madeOf, Whole};
-ghost use Rattle.textform.specs.Needs.{ofSort, leading as leadingOf, Next, ReadAt, Fits, Stepped, Finished};
+ghost use Rattle.textform.specs.Needs.{ofSort, leading as leadingOf, Next, ReadAt, Fits, Stepped, SteppedAside, Finished};
 
-// The records so far, and the tick of the last event.
+// The overhead so far and how often it was said, the records, and the tick of the last event.
 pub struct Progress {
+    overhead: u32,
+    overheads: usize,
     flows: usize,
     events: usize,
     last: u32,
@@ -129,6 +131,19 @@ fn nothing_more(t: &[u8], at: usize, item: Item) -> Item
     Item::Wrong(Want::End)
 }
 
+// `overhead BYTES`, behind its first word.
+fn overhead_item(t: &[u8], at: usize) -> Item
+    requires { ⌜ at ≤ length (now t) ⌝ }
+    ensures { λ r. ⌜ r ≡ overheadItem (wordsOf (drop at (now (t .entry)))) ⌝ }
+{
+    let a = number(t, at, 0, drr::MOST_OVERHEAD as u64);
+    let said = a.said;
+    let Word::Number(overhead) = said else {
+        return Item::Wrong(Want::Overhead);
+    };
+    nothing_more(t, a.to, Item::OverheadOf(overhead as u32))
+}
+
 // `flow QUANTUM MAXIMUM`, behind its first word.
 fn flow_item(t: &[u8], at: usize) -> Item
     requires { ⌜ at ≤ length (now t) ⌝ }
@@ -183,6 +198,9 @@ fn item_in(t: &[u8]) -> Item
     let to = next.to;
     if from == to {
         return Item::Nothing;
+    }
+    if text::same(&t[from..to], b"overhead") {
+        return overhead_item(t, to);
     }
     if text::same(&t[from..to], b"flow") {
         return flow_item(t, to);
@@ -244,6 +262,25 @@ pub enum Put {
     Stops(Want),
 }
 
+// The overhead, which stands in the header and not among the records.
+fn put_overhead(c: Progress, overhead: u32) -> Put
+    ensures { λ r. ⌜ SteppedAside c (OverheadOf overhead) r ⌝ }
+{
+    if 0 < c.flows {
+        return Put::Stops(Want::OverheadFirst);
+    }
+    if 0 < c.overheads {
+        return Put::Stops(Want::OneOverhead);
+    }
+    Put::Goes(Progress {
+        overhead: overhead,
+        overheads: c.overheads + 1,
+        flows: c.flows,
+        events: c.events,
+        last: c.last,
+    })
+}
+
 // A flow more.
 fn put_flow(file: &mut [u8], c: Progress, quantum: u32, maximum: u32) -> Put
     requires { ⌜ Fits c (now file) ⌝ }
@@ -258,6 +295,8 @@ fn put_flow(file: &mut [u8], c: Progress, quantum: u32, maximum: u32) -> Put
     let at = HEADER_SIZE + 8 * c.flows;
     flow_at(file, at, quantum, maximum);
     Put::Goes(Progress {
+        overhead: c.overhead,
+        overheads: c.overheads,
         flows: c.flows + 1,
         events: c.events,
         last: c.last,
@@ -281,6 +320,8 @@ fn put_event(file: &mut [u8], c: Progress, tick: u32, flow: u16, size: u16) -> P
     let at = HEADER_SIZE + 8 * c.flows + 8 * c.events;
     event_at(file, at, tick, flow, size);
     Put::Goes(Progress {
+        overhead: c.overhead,
+        overheads: c.overheads,
         flows: c.flows,
         events: c.events + 1,
         last: tick,
@@ -294,6 +335,7 @@ fn put_item(file: &mut [u8], c: Progress, item: Item) -> Put
 {
     match item {
         Item::Nothing => Put::Goes(c),
+        Item::OverheadOf(overhead) => put_overhead(c, overhead),
         Item::FlowOf(quantum, maximum) => put_flow(file, c, quantum, maximum),
         Item::EventOf(tick, flow, size) => put_event(file, c, tick, flow, size),
         Item::Wrong(want) => Put::Stops(want),
@@ -303,7 +345,7 @@ fn put_item(file: &mut [u8], c: Progress, item: Item) -> Put
 // The header of a file without gaps.
 fn put_header(file: &mut [u8], c: Progress)
     requires { ⌜ Fits c (now file) ⌝ }
-    ensures { λ _. ⌜ now (file .exit) ≡ sets (now (file .entry)) 0 (headerBytes (c .flows) (c .events)) ⌝ }
+    ensures { λ _. ⌜ now (file .exit) ≡ sets (now (file .entry)) 0 (headerBytes (c .flows) (c .events) (c .overhead)) ⌝ }
 {
     let events_at = HEADER_SIZE + 8 * c.flows;
     let end = events_at + 8 * c.events;
@@ -312,7 +354,7 @@ fn put_header(file: &mut [u8], c: Progress)
     put4(file, 4, HEADER_SIZE as u32);
     put4(file, 8, events_at as u32);
     put4(file, 12, end as u32);
-    put4(file, 16, 0);
+    put4(file, 16, c.overhead);
 }
 
 fn one_if(test: bool) -> usize
@@ -366,6 +408,8 @@ fn make_lines(text: &[u8]) -> Made
 {
     let mut file = [0u8; 8340];
     let mut counts = Progress {
+        overhead: 0,
+        overheads: 0,
         flows: 0,
         events: 0,
         last: 0,

@@ -4,17 +4,18 @@ use drr::Verdict;
 use runfile::fields::le2;
 use runfile::fields::le4;
 ghost use mathlib.Core.Path.{_≡_};
-ghost use Prim.Native.Nat.{_*_, _≤_};
+ghost use Prim.Native.Nat.{_+_, _*_, _≤_};
 ghost use lib.ListN.{length};
 ghost use Rattle.io.specs.Counts.{Counts};
 ghost use Rattle.drr.specs.Limits.{mostFlows, mostEvents};
 ghost use Rattle.runfile.specs.File.{eventsFrom};
 ghost use Rattle.text.specs.Text.{overlaid};
+ghost use Rattle.answers.specs.Printed.{overheadRoom};
 ghost use Rattle.textform.specs.Made.{each};
-ghost use Rattle.textform.specs.Shown.{flowText, eventText, flowsOf, flowLineRoom, eventLineRoom, shownWithin};
+ghost use Rattle.textform.specs.Shown.{flowText, eventText, flowsOf, tableText, flowLineRoom, eventLineRoom, shownWithin};
 
 // Bytes that are room for any run file's text.
-pub const SHOWN_ROOM: usize = 71408;
+pub const SHOWN_ROOM: usize = 71438;
 
 // A flow's line. This and the next functions ask for the room that such lines may take, and answer how
 // many bytes they took.
@@ -51,7 +52,7 @@ fn put_event(tick: u64, flow: u64, size: u64, buf: &mut [u8]) -> usize
 // A line for each flow of a table.
 fn put_flows(table: Table, buf: &mut [u8]) -> usize
     requires { ⌜ (table .n ≤ mostFlows) × (flowLineRoom * table .n ≤ length (now buf)) ⌝ }
-    ensures { λ r. ⌜ (let text = each flowText (flowsOf table 0 (table .n)) in
+    ensures { λ r. ⌜ (let text = each flowText (flowsOf table) in
         (r ≡ length text) × (now (buf .exit) ≡ overlaid text (now (buf .entry)))) ⌝ }
 {
     let n = table.n;
@@ -66,6 +67,16 @@ fn put_flows(table: Table, buf: &mut [u8]) -> usize
         flow += 1;
     }
     at
+}
+
+// .. behind the line of its overhead.
+fn put_table(table: Table, buf: &mut [u8]) -> usize
+    requires { ⌜ (table .n ≤ mostFlows) × (overheadRoom + flowLineRoom * table .n ≤ length (now buf)) ⌝ }
+    ensures { λ r. ⌜ (let text = tableText table in
+        (r ≡ length text) × (now (buf .exit) ≡ overlaid text (now (buf .entry)))) ⌝ }
+{
+    let at = answers::overhead_line(table.overhead, buf);
+    at + put_flows(table, &mut buf[at..])
 }
 
 // A line for each of m events that stand at the start of a part of the file.
@@ -87,7 +98,7 @@ fn put_events(t: &[u8], m: usize, buf: &mut [u8]) -> usize
 }
 
 // The text of a file's bytes, or the line of its refusal, at the start of a lent buffer, and how many bytes
-// it has; nothing, and 0, where the buffer has fewer than 71,408 bytes.
+// it has; nothing, and 0, where the buffer has fewer than 71,438 bytes.
 pub fn show_text(file: &[u8], buf: &mut [u8]) -> usize
     ensures { λ r. ⌜ r ≡ length (shownWithin (now (file .entry)) (length (now (buf .entry)))) ⌝ }
     ensures { λ _. ⌜ now (buf .exit) ≡
@@ -104,7 +115,7 @@ pub fn show_text(file: &[u8], buf: &mut [u8]) -> usize
     }
     let table = read.table;
     let events = read.events;
-    let size = put_flows(table, buf);
+    let size = put_table(table, buf);
     let at = events.at;
     size + put_events(&file[at..], events.count, &mut buf[size..])
 }

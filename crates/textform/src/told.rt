@@ -24,19 +24,22 @@ fn words_of(want: Want) -> Span
     ensures { λ r. ⌜ Says want r ⌝ }
 {
     match want {
-        Want::Record => from_to(0, 25),
-        Want::Quantum => from_to(25, 58),
-        Want::Maximum => from_to(58, 90),
-        Want::Tick => from_to(90, 125),
-        Want::Flow => from_to(125, 155),
-        Want::Length => from_to(155, 187),
-        Want::End => from_to(187, 218),
-        Want::FlowsFirst => from_to(218, 253),
-        Want::EventsOnly => from_to(253, 291),
-        Want::FewerFlows => from_to(291, 319),
-        Want::FewerEvents => from_to(319, 350),
-        Want::LaterTick => from_to(350, 393),
-        Want::Shorter => from_to(393, 435),
+        Want::Record => from_to(0, 35),
+        Want::Overhead => from_to(35, 67),
+        Want::Quantum => from_to(67, 100),
+        Want::Maximum => from_to(100, 132),
+        Want::Tick => from_to(132, 167),
+        Want::Flow => from_to(167, 197),
+        Want::Length => from_to(197, 229),
+        Want::End => from_to(229, 260),
+        Want::OverheadFirst => from_to(260, 301),
+        Want::OneOverhead => from_to(301, 333),
+        Want::FlowsFirst => from_to(333, 368),
+        Want::EventsOnly => from_to(368, 406),
+        Want::FewerFlows => from_to(406, 434),
+        Want::FewerEvents => from_to(434, 465),
+        Want::LaterTick => from_to(465, 508),
+        Want::Shorter => from_to(508, 550),
     }
 }
 
@@ -49,13 +52,16 @@ pub fn fault_text(line: usize, want: Want, buf: &mut [u8]) -> usize
     ensures { λ r. ⌜ Counts r (now (buf .exit)) ⌝ }
 {
     let all = *b"\
-    : expected flow or event\n\
+    : expected overhead, flow or event\n\
+    : expected an overhead, 0 to 64\n\
     : expected a quantum, 1 to 65535\n\
     : expected a maximum, 1 to 9216\n\
     : expected a tick, 0 to 4294967295\n\
     : expected a flow, 0 to 65535\n\
     : expected a length, 0 to 65535\n\
     : expected the end of the line\n\
+    : expected the overhead before the flows\n\
+    : expected at most one overhead\n\
     : expected a flow before any event\n\
     : expected an event: flows come first\n\
     : expected at most 16 flows\n\

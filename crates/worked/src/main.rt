@@ -112,7 +112,7 @@ fn main() {
             records: list,
             count: 3,
         },
-        Terms {},
+        Terms { overhead: 0 },
     );
     let answer = m.answer;
     if let Verdict::Refused(why, place) = answer {

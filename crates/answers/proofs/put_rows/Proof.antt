@@ -7,10 +7,10 @@ use lib.ListN.{length, take, drop, length-drop}
 use Rattle.drr.specs.declared.Table.{Table}
 use Rattle.text.proofs.Texts.{Filled}
 use Rattle.text.proofs.Lines.{to-end}
-use Rattle.answers.specs.declared.Dress.{Dress}
-use Rattle.answers.specs.Printed.{rowRoom, flowsRoom}
+use Rattle.answers.specs.Printed.{overheadText, titledText, overheadRoom, titledRoom}
 use Rattle.answers.proofs.Given.{as-text}
-use Rattle.answers.proofs.FlowLines.{titlesOf, linesOf, with-titles, without-titles, titles-fit, rows-most, two-filled}
+use Rattle.answers.proofs.Overhead.{overhead-fits, overhead-most}
+use Rattle.answers.proofs.FlowLines.{titled-most, two-filled}
 use Rattle.answers.proofs.put_rows.Statement.{statement}
 use Rattle.answers.proofs.put_rows.Tie as tie
 
@@ -18,64 +18,51 @@ module _ (s : tie.Start) where
   abbrev T : Table
   T = s .args .s .table
 
-  abbrev sizes : List ℕ
-  sizes = s .args .sizes .now
-
-  abbrev dress : Dress
-  dress = s .args .dress
-
   abbrev b : List ℕ
   b = s .args .buf .now
 
-  most : (length (titlesOf T sizes dress) ≤ rowRoom) × (length (linesOf T sizes dress) ≤ flowsRoom)
-  most = rows-most T sizes dress (s .pre .1) (s .pre .0 .flows-few)
+  abbrev front : List ℕ
+  front = overheadText (T .overhead)
 
--- the titles are put, and there is room behind them
-module _ (p : tie.After-titles-text) where
+  abbrev rows : List ℕ
+  rows = titledText T (s .args .sizes .now) (s .args .dress)
+
+  most : (length front ≤ overheadRoom) × (length rows ≤ titledRoom)
+  most = (overhead-most (T .overhead), titled-most T (s .args .sizes .now) (s .args .dress) (s .pre .1) (s .pre .0 .flows-few))
+
+-- the overhead's line is put, and there is room behind it
+module _ (p : tie.After-overhead-line) where
   abbrev S : tie.Start
   S = p .before .before .before .before .before
 
-  titled : Filled (titlesOf (T S) (sizes S) (dress S)) (b S) (p .titles-text .last .1 .1 .0) (p .titles-text .result)
-  titled =
-      as-text _ _ (b S) _ _ (titles-fit (T S) (sizes S) (dress S) (S .pre .1) (length (b S)) (omega (arith, S .pre .2)))
-      (p .titles-text .ensures)
+  abbrev at : ℕ
+  at = p .overhead-line .result
 
-  room : p .titles-text .result + flowsRoom ≤ length (p .titles-text .last .1 .1 .0)
-  room = omega (arith, titled .0, most S .0, S .pre .2, p .titles-text .kept .1 .1 .0)
+  abbrev b' : List ℕ
+  b' = p .overhead-line .last .1 .0
 
-  behind : let at = p .titles-text .result in
-      let b' = p .titles-text .last .1 .1 .0 in
-      flowsRoom ≤ length (take (length b' - at) (drop at b'))
-  behind =
-      let at = p .titles-text .result in
-      let b' = p .titles-text .last .1 .1 .0 in
-      omega (arith, room, ap length (to-end at b'), length-drop at b')
+  begun : Filled (front S) (b S) b' at
+  begun = as-text _ _ (b S) _ _ (overhead-fits (T S .overhead) (length (b S)) (omega (arith, S .pre .2))) (p .overhead-line .ensures)
+
+  room : at + titledRoom ≤ length b'
+  room = omega (arith, begun .0, most S .0, S .pre .2, p .overhead-line .kept .1 .0)
+
+  behind : titledRoom ≤ length (take (length b' - at) (drop at b'))
+  behind = omega (arith, room, ap length (to-end at b'), length-drop at b')
 
 returns : tie.Need-returns
 returns c =
     let e = c .before .before in
     let p = e .before .before .before .before in
     let s = S p in
-    let t = p .before .before in
-    let m = most s in
-    as-text _ _ (b s) _ _ (with-titles (T s) (sizes s) (dress s) (t .if1 .taken))
-    (two-filled (titlesOf (T s) (sizes s) (dress s)) (linesOf (T s) (sizes s) (dress s)) (b s) _ _ _ _
-    (omega (arith, m .0, m .1, s .pre .2)) (titled p) (e .put-flows .ensures))
-
-returns-2 : tie.Need-returns-2
-returns-2 c =
-    let e = c .before .before in
-    let i = e .before .before in
-    let s = i .before .before .before in
-    as-text _ _ (b s) _ _ (without-titles (T s) (sizes s) (dress s) (i .if1 .left)) (e .put-flows2 .ensures)
+    two-filled (front s) (rows s) (b s) _ _ _ _ (omega (arith, most s, s .pre .2)) (begun p) (e .put-titled .ensures)
 
 -- far below 64 bits
 add-result : tie.Need-add-result
 add-result c =
     let e = c .before .before in
     let p = e .before .before .before .before in
-    let m = most (S p) in
-    omega (arith, titled p .0, e .put-flows .ensures .0, m .0, m .1)
+    omega (arith, begun p .0, e .put-titled .ensures .0, most (S p))
 
 pub put-rows-spec : {M : Type 1} → statement M
 put-rows-spec =
@@ -88,7 +75,4 @@ put-rows-spec =
     (λ c κs. let p = c .before .before .before in (S p .pre .0, S p .pre .1, behind p))
     add-result
     (λ c. search needs)
-    returns
-    (λ c κs. let s = c .before .before .before .before in (s .pre .0, s .pre .1, omega (arith, s .pre .2)))
-    (λ c. search needs)
-    returns-2)
+    returns)

@@ -26,10 +26,14 @@ returns-4 c =
     let e = i .before .before in
     λ qs ds sp. simp (lt-leb _ _ (e .before .if1 .left), ne-eqb _ _ (e .if2 .left), le-ltb _ _ (i .if3 .left), le-leb _ _ (c .if4 .taken))
 
+-- where the maximum was passed, back to where the length was
+abbrev past-length : tie.Else3 → tie.Else2
+past-length i = i .before .before
+
 cast-rows : tie.Need-cast-rows
 cast-rows c =
     let i = c .before .before in
-    let e = i .before .before in
+    let e = past-length i in
     let s = e .before .before .before in
     omega (arith, s .pre .maxima-most (s .args .flow) (e .before .if1 .left), i .if3 .left)
 
@@ -37,7 +41,7 @@ cast-rows c =
 add-sums : tie.Need-add-sums
 add-sums c =
     let i = c .before .before .before in
-    let e = i .before .before in
+    let e = past-length i in
     let s = e .before .before .before in
     let in-table = e .before .if1 .left in
     omega (arith, s .pre .sums-most (s .args .flow) in-table, s .pre .maxima-most (s .args .flow) in-table, i .if3 .left)
@@ -47,7 +51,7 @@ unfolding arrivalOf
 returns-5 c =
     let b = c .before in
     let i = b .before .before in
-    let e = i .before .before in
+    let e = past-length i in
     λ qs ds sp. simp (lt-leb _ _ (e .before .if1 .left), ne-eqb _ _ (e .if2 .left), le-ltb _ _ (i .if3 .left), lt-leb _ _ (b .if4 .left))
 
 pub book-spec : {M : Type 1} → statement M

@@ -6,8 +6,8 @@ use native.Mathlib.Omega.{arith}
 use borrow.Author.Needs.{needs}
 use Rattle.drr.specs.declared.Table.{Table}
 use Rattle.drr.specs.declared.Found.the-variants.{At}
-use Rattle.drr.specs.Limits.{mostFlows, mostMaxima}
-use Rattle.drr.specs.State.{Line, common, tableOf, lineOf, spotAt, quantumOf, deficitOf, oldestCharge}
+use Rattle.drr.specs.Limits.{mostFlows, mostCharges}
+use Rattle.drr.specs.State.{Line, tableOf, lineOf, spotAt, quantumOf, deficitOf, oldestCharge}
 use Rattle.drr.specs.Pick.{next}
 use Rattle.drr.proofs.Steps.{sound-place}
 use Rattle.drr.proofs.Sums.{overFlows}
@@ -21,12 +21,12 @@ abbrev between : List ℕ → List ℕ → List ℕ → List (List ℕ) → ℕ 
 between counts sums deficits rows place = lineOf counts sums deficits rows (spotAt place false)
 
 abbrev Inv-loop : tie.InvT-loop
-Inv-loop quanta maxima counts₀ sums₀ deficits₀ rows₀ start n place₀ visits₀ counts sums deficits rows place visits =
-    Along (tableOf (common n) quanta maxima) (between counts₀ sums₀ deficits₀ rows₀ start) (between counts sums deficits rows place) visits
+Inv-loop common quanta maxima counts₀ sums₀ deficits₀ rows₀ start n place₀ visits₀ counts sums deficits rows place visits =
+    Along (tableOf common quanta maxima) (between counts₀ sums₀ deficits₀ rows₀ start) (between counts sums deficits rows place) visits
 
 abbrev μ-loop : tie.MeasureT-loop
-μ-loop quanta maxima counts₀ sums₀ deficits₀ rows₀ start n place₀ visits₀ counts sums deficits rows place visits =
-    mostMaxima - overFlows deficits
+μ-loop common quanta maxima counts₀ sums₀ deficits₀ rows₀ start n place₀ visits₀ counts sums deficits rows place visits =
+    mostCharges - overFlows deficits
 
 place-low : (a : tie.At-loop Inv-loop μ-loop) → a .loop .place < mostFlows
 place-low a = sound-place (a .loop .inv .sound)
@@ -62,7 +62,7 @@ module _ (k : tie.After-known-told Inv-loop μ-loop) where
 
   -- what its oldest packet is charged, and its deficit with the quantum
   abbrev cost : ℕ
-  cost = oldestCharge L F
+  cost = oldestCharge T L F
 
   abbrev grown : ℕ
   grown = deficitOf L F + quantumOf T F

@@ -48,7 +48,7 @@ module _ (e : tie.Then3) where
   abbrev at-place : (Line → ℕ → ℕ) → ℕ
   at-place p = p (S (O .before)) (S (O .before) .place)
 
-  enough : at-place oldestCharge ≤ at-place deficitOf
+  enough : at-place (oldestCharge (T (O .before))) ≤ at-place deficitOf
   enough = rw (G .charge-of .ensures) at (e .if3 .taken)
 
 send-requires : tie.Need-send-requires

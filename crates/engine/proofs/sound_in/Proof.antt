@@ -7,31 +7,31 @@ use native.Mathlib.Omega.{arith}
 use lib.Dec.{lit≤}
 use lib.ListN.{getD, take}
 use Rattle.drr.specs.declared.Table.{Table}
-use Rattle.drr.specs.Limits.{mostFlows, mostWaiting}
-use Rattle.drr.specs.State.{Line, common, tableOf, lineOf, spotAt, sumOf, bytesOf}
+use Rattle.drr.specs.Limits.{mostFlows, mostOverhead, mostWaiting}
+use Rattle.drr.specs.State.{Line, tableOf, lineOf, spotAt, sumOf, bytesOf}
 use Rattle.drr.specs.Sound.{all, cellsb, flowb}
 use Rattle.drr.proofs.Bools.{refuted, passed, all-none, all-more}
-use Rattle.engine.proofs.Tests.{head-fault, flow-fault, no-fault, numbers-fault, cell-fault}
+use Rattle.engine.proofs.Tests.{head-overhead, numbersOf, head-fault, flow-fault, no-fault, numbers-fault, cell-fault}
 use Rattle.engine.proofs.Tests.{bytes-on, sum-fault, flow-good}
 use Rattle.engine.proofs.sound_in.Statement.{statement}
 use Rattle.engine.proofs.sound_in.Tie as tie
 
 abbrev Inv-loop : tie.InvT-loop
-Inv-loop quanta maxima counts sums deficits rows n place opened ok₀ f maximum count bytes₀ k₀ ok bytes k =
+Inv-loop common quanta maxima counts sums deficits rows n place opened ok₀ f maximum count bytes₀ k₀ ok bytes k =
     (k ≤ mostWaiting) × (ok ≡ true)
-    × (all k (cellsb (tableOf (common n) quanta maxima) (lineOf counts sums deficits rows (spotAt place opened)) f) ≡ true)
+    × (all k (cellsb (tableOf common quanta maxima) (lineOf counts sums deficits rows (spotAt place opened)) f) ≡ true)
     × (bytes ≡ bytesOf (take k (getD rows f []))) × (bytes ≤ k * 65535)
 
 abbrev μ-loop : tie.MeasureT-loop
-μ-loop quanta maxima counts sums deficits rows n place opened ok₀ f maximum count bytes₀ k₀ ok bytes k = mostWaiting - k
+μ-loop common quanta maxima counts sums deficits rows n place opened ok₀ f maximum count bytes₀ k₀ ok bytes k = mostWaiting - k
 
 abbrev Inv-flows : tie.InvT-flows
-Inv-flows quanta maxima counts sums deficits rows n place opened ok₀ f₀ ok f =
+Inv-flows common quanta maxima counts sums deficits rows n place opened ok₀ f₀ ok f =
     (f ≤ mostFlows) × (ok ≡ true)
-    × (all f (flowb (tableOf (common n) quanta maxima) (lineOf counts sums deficits rows (spotAt place opened))) ≡ true)
+    × (all f (flowb (tableOf common quanta maxima) (lineOf counts sums deficits rows (spotAt place opened))) ≡ true)
 
 abbrev μ-flows : tie.MeasureT-flows
-μ-flows quanta maxima counts sums deficits rows n place opened ok₀ f₀ ok f = mostFlows - f
+μ-flows common quanta maxima counts sums deficits rows n place opened ok₀ f₀ ok f = mostFlows - f
 
 -- the table and the line in the arrays
 module _ (c : tie.Start Inv-loop μ-loop Inv-flows μ-flows) where
@@ -41,8 +41,27 @@ module _ (c : tie.Start Inv-loop μ-loop Inv-flows μ-flows) where
   abbrev L : Line
   L = lineOf (c .args .counts .now) (c .args .sums .now) (c .args .deficits .now) (c .args .rows .now) (c .args .spot)
 
+-- from the test of a flow's numbers back to the flow, and to the head's test
+abbrev visit-of : tie.After-numbers-ok Inv-loop μ-loop Inv-flows μ-flows → tie.At-flows Inv-loop μ-loop Inv-flows μ-flows
+visit-of n = n .before .before .before .before .before .before .before .before
+
+-- past the head's test the overhead is in range
+fits : (c : tie.After-charge-of-arg Inv-loop μ-loop Inv-flows μ-flows) →
+    c .before .before .before .before .before .before .before .before .before .args .common .overhead ≤ mostOverhead
+fits c =
+    let d = c .before .before .before .before .before .before .before in
+    let a = d .before .before .args in
+    head-overhead (a .common) (a .spot) (passed (d .before .head-ok .ensures) (d .if1 .left))
+
+-- the numbers are tested with what the oldest packet is charged
+numbers : (n : tie.After-numbers-ok Inv-loop μ-loop Inv-flows μ-flows) →
+    let o = visit-of n in
+    let s = o .before .before .before in
+    n .numbers-ok .result ≡ numbersOf (T s) (L s) (o .flows .f)
+numbers n = rw (n .before .charge-of .ensures) at (n .numbers-ok .ensures)
+
 abbrev at-flows : tie.Else2 Inv-loop μ-loop Inv-flows μ-flows → tie.At-flows Inv-loop μ-loop Inv-flows μ-flows
-at-flows e = e .before .before .before .before .before .before .before .before
+at-flows e = visit-of (e .before)
 
 flow-in : (e : tie.Else2 Inv-loop μ-loop Inv-flows μ-flows) → at-flows e .flows .f < mostFlows
 flow-in e = omega arith
@@ -85,13 +104,13 @@ module _ (h : tie.After-loop Inv-loop μ-loop Inv-flows μ-flows) where
   sum-true : h .before .loop .bytes ≡ sum → flowb (T S) (L S) (O .flows .f) ≡ true
   sum-true =
       let i = h .before .loop .inv in
-      flow-good (T S) (L S) (O .flows .f) (passed (E .before .numbers-ok .ensures) (E .if2 .left)) (rw whole at (i .2)) _
+      flow-good (T S) (L S) (O .flows .f) (passed (numbers (E .before)) (E .if2 .left)) (rw whole at (i .2)) _
       (rw whole at (i .3))
 
   sum-false : (h .before .loop .bytes ≡ sum → ⊥) → flowb (T S) (L S) (O .flows .f) ≡ false
   sum-false =
       let i = h .before .loop .inv in
-      sum-fault (T S) (L S) (O .flows .f) (passed (E .before .numbers-ok .ensures) (E .if2 .left)) (rw whole at (i .2)) _
+      sum-fault (T S) (L S) (O .flows .f) (passed (numbers (E .before)) (E .if2 .left)) (rw whole at (i .2)) _
       (rw whole at (i .3))
 
 flows-again : tie.Need-flows-again Inv-loop μ-loop Inv-flows μ-flows
@@ -110,9 +129,9 @@ returns-2 c =
 
 returns-3 : tie.Need-returns-3 Inv-loop μ-loop Inv-flows μ-flows
 returns-3 c =
-    let o = c .before .before .before .before .before .before .before .before in
+    let o = visit-of (c .before) in
     let s = o .before .before .before in
-    let fault = refuted (c .before .numbers-ok .ensures) (c .if2 .taken) in
+    let fault = refuted (numbers (c .before)) (c .if2 .taken) in
     flow-fault (T s) (L s) (o .flows .f) (omega arith) (numbers-fault (T s) (L s) (o .flows .f) fault)
 
 returns-4 : tie.Need-returns-4 Inv-loop μ-loop Inv-flows μ-flows
@@ -150,6 +169,7 @@ sound-in-spec =
     (λ c. search needs)
     (λ c. search needs)
     (λ c. search needs)
+    (λ c κs. fits c)
     (λ c κs. search needs)
     (λ c. (lit≤ tt, at-flows c .flows .inv .1, all-none _, refl, lit≤ tt))
     (λ c. search needs)

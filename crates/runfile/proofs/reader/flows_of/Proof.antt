@@ -3,7 +3,7 @@ use Prim.Native.Nat.{_*_, _-_, _≤_}
 use native.Mathlib.Omega.{arith}
 use borrow.Author.Needs.{needs}
 use lib.ListN.{length, take, drop, length-drop}
-use Rattle.drr.specs.Setup.{setupAnswer, setupTable, recordsIn}
+use Rattle.drr.specs.Setup.{termsOf, setupAnswer, setupTable, recordsIn}
 use Rattle.runfile.specs.declared.reader.Part.{Part}
 use Rattle.runfile.specs.File.{flowCount, flowOffset, flowsFrom, flowsIn}
 use Rattle.runfile.proofs.Files.{part-is}
@@ -34,6 +34,7 @@ module _ (s : tie.Start) where
         length-drop (flowOffset b) b,
       )
 
+-- the records, and the terms with the overhead that was read
 records-are : (c : tie.After-records) → recordsIn (c .records .result) ≡ flowsIn (c .before .before .before .args .file .now)
 records-are c =
     let s = c .before .before .before in
@@ -42,9 +43,8 @@ records-are c =
 
 returns : tie.Need-returns
 returns c = (
-  c .table-of .ensures .0 ∙ ap setupAnswer (records-are (c .before)),
-  c .table-of .ensures .1
-      ∙ ap setupTable (records-are (c .before)),
+  c .table-of .ensures .0 ∙ (λ i. setupAnswer (records-are (c .before .before) i) (termsOf (c .before .le4 .ensures .0 i))),
+  c .table-of .ensures .1 ∙ (λ i. setupTable (records-are (c .before .before) i) (termsOf (c .before .le4 .ensures .0 i))),
 )
 
 pub flows-of-spec : {M : Type 1} → statement M
@@ -55,5 +55,7 @@ flows-of-spec =
     (λ c. starts (c .before))
     (λ c. search needs)
     (λ c κs. let s = c .before .before in (part-long s, omega (arith, count-is s, s .pre .0 .flows-few)))
+    (λ c κs. omega (arith, c .before .before .before .pre .0 .long))
+    (λ c. omega (arith, c .le4 .ensures .1))
     (λ c κs. search needs)
     returns)

@@ -8,13 +8,13 @@ use lib.Dec.{ltb, eqb}
 use borrow.Author.Needs.{needs}
 use borrow.Author.Tests.{ltb-false, lt-ltb, le-ltb, eq-eqb, ne-eqb}
 use Rattle.drr.specs.declared.Refusal.{Refusal}
-use Rattle.drr.specs.declared.Refusal.the-variants.{FlowCount, FileLength, Reserved, EventCount, TablePlace}
-use Rattle.drr.specs.Limits.{mostFlows, mostEvents}
+use Rattle.drr.specs.declared.Refusal.the-variants.{FlowCount, FileLength, OverheadRange, EventCount, TablePlace}
+use Rattle.drr.specs.Limits.{mostFlows, mostOverhead, mostEvents}
 use Rattle.drr.specs.Answers.{Answer, numberOf, fine, refusedAt}
 use Rattle.drr.proofs.Bools.{refuted, passed, or-left}
 use Rattle.drr.proofs.Papers.{number-some}
 use Rattle.runfile.specs.declared.reader.Layout.{Layout}
-use Rattle.runfile.specs.File.{headerAnswer, headerLayout, headerSize, mostBytes, statedLength, reserved, flowCount, eventCount}
+use Rattle.runfile.specs.File.{headerAnswer, headerLayout, headerSize, mostBytes, statedLength, overheadIn, flowCount, eventCount}
 use Rattle.runfile.specs.File.{flowOffset, eventOffset, noTables, tablesb}
 use Rattle.runfile.proofs.Files.{layout-is}
 use Rattle.runfile.proofs.reader.header.Statement.{statement}
@@ -49,8 +49,8 @@ t1 c = c .if1 .left
 t2 : (c : tie.Else2) → eqb (statedLength (F2 c)) (length (F2 c)) ≡ true
 t2 c = eq-eqb _ _ (sym (c .before .le4 .ensures .0) ∙ c .if2 .left)
 
-t3 : (c : tie.Else3) → eqb (reserved (F3 c)) 0 ≡ true
-t3 c = eq-eqb _ _ (sym (c .before .le42 .ensures .0) ∙ c .if3 .left)
+t3 : (c : tie.Else3) → ltb mostOverhead (overheadIn (F3 c)) ≡ false
+t3 c = le-ltb mostOverhead (overheadIn (F3 c)) (omega (arith, c .before .le42 .ensures .0, c .if3 .left))
 
 -- the tests of the numbers that were read
 flows : {r k : Layout} {v : Bool} → r ≡ k → (eqb (r .flows .count) 0 || ltb mostFlows (r .flows .count)) ≡ v →
@@ -92,7 +92,11 @@ refused-3 : (c : tie.Then3) → refusedAt 10 0 ≡ headerAnswer (F2 (c .before .
 unfolding headerAnswer
 refused-3 c =
     let two = c .before .before in
-    simp (t1 (two .before .before), t2 two, ne-eqb _ _ (λ e. c .if3 .taken (c .before .le42 .ensures .0 ∙ e)))
+    simp (
+      t1 (two .before .before),
+      t2 two,
+      lt-ltb mostOverhead (overheadIn (F2 two)) (omega (arith, c .before .le42 .ensures .0, c .if3 .taken)),
+    )
 
 module _ (k : tie.After-struct-known2) where
   abbrev three : tie.Else3
@@ -145,9 +149,10 @@ header-spec =
     (λ c κs. omega (arith, long c))
     (λ c κs. search needs)
     (λ c. none _ FileLength (c .no-tables2 .ensures .0) (c .no-tables2 .ensures .1) (refused-2 (c .before)))
+    (λ c. search needs)
     (λ c κs. long (c .before .before))
     (λ c κs. search needs)
-    (λ c. none _ Reserved (c .no-tables3 .ensures .0) (c .no-tables3 .ensures .1) (refused-3 (c .before)))
+    (λ c. none _ OverheadRange (c .no-tables3 .ensures .0) (c .no-tables3 .ensures .1) (refused-3 (c .before)))
     (λ c κs. long (c .before .before .before .before))
     (λ c κs. search needs)
     (λ c. none _ FlowCount (c .no-tables4 .ensures .0) (c .no-tables4 .ensures .1) (refused-4 (c .before)))

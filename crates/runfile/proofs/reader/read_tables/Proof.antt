@@ -7,7 +7,7 @@ use lib.ListN.{length, take, drop, length-drop}
 use Rattle.drr.specs.Answers.{fine, verdictPaper}
 use Rattle.drr.specs.Setup.{setupAnswer}
 use Rattle.runfile.specs.declared.reader.Layout.{Layout}
-use Rattle.runfile.specs.File.{eventCount, eventOffset, flowsIn, eventsIn, eventsFrom, ticksAnswer, Laid}
+use Rattle.runfile.specs.File.{eventCount, eventOffset, flowsIn, termsIn, eventsIn, eventsFrom, ticksAnswer, Laid}
 use Rattle.runfile.proofs.Files.{part-is, laid-fine, flows-refused, ticks-refused, all-fine}
 use Rattle.runfile.proofs.reader.read_tables.Statement.{statement}
 use Rattle.runfile.proofs.reader.read_tables.Tie as tie
@@ -46,7 +46,9 @@ module _ (x : tie.After-flows-of) where
   S = x .before .before .before .before
 
 -- setup accepted the flows
-accepted : (m : tie.After-enum-told) → fine ≡ setupAnswer (flowsIn (b (S (m .before .before))))
+accepted : (m : tie.After-enum-told) →
+    let f = b (S (m .before .before)) in
+    fine ≡ setupAnswer (flowsIn f) (termsIn f)
 accepted m = sym (ap verdictPaper (m .enum-told .given .1)) ∙ m .before .before .flows-of .ensures .0
 
 -- the ticks' answer is the file's

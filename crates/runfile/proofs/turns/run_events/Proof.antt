@@ -5,8 +5,8 @@ use native.Mathlib.Omega.{arith}
 use borrow.Author.Needs.{needs}
 use lib.ListN.{length, drop}
 use Rattle.drr.specs.declared.Table.{Table}
-use Rattle.drr.specs.Limits.{mostMaximum, mostEvents}
-use Rattle.drr.specs.State.{Line, tableOf, lineOf}
+use Rattle.drr.specs.Limits.{mostMaximum, mostCharge, mostEvents}
+use Rattle.drr.specs.State.{Line, tableOf, lineOf, charge}
 use Rattle.drr.specs.Facts.{Ranged}
 use Rattle.drr.specs.Answers.{idle, sentAs, arrivalPaper, pickPaper, outcome}
 use Rattle.drr.specs.Computed.{pickOf}
@@ -152,7 +152,8 @@ loop-again c =
     let a = A (D n) in
     let e = B n .book .ensures (S (K a) .args .table .quanta) (a .loop .deficits) (a .loop .spot) in
     books (here a) _ _ _ (is-tick n) (is-flow n) (is-length n) (come (D n) .0) (has n) (arrivalPaper (B n .book .result)) _ e _
-    (n .note .ensures .1) _ (Q n .waiting-at .ensures) _ (n .before .before .before .before .note-beside .ensures) _ refl _ (n .note .ensures .0)
+    (n .note .ensures .1) _ (Q n .waiting-at .ensures) _ (n .before .before .before .before .note-beside .ensures) _ refl _
+    (n .note .ensures .0)
 
 loop-less : tie.Need-loop-less Inv-loop μ-loop
 loop-less c =
@@ -195,30 +196,36 @@ module _ (G : tie.After-answer Inv-loop μ-loop) where
   before-last = given-before (here A₁) (later (J P)) _ _ (P .pick-in .ensures) f len d v told
 
 -- .. and what it sent is told
-module _ (c : tie.After-usize-of-u32 Inv-loop μ-loop) where
-  abbrev Z : tie.After-send-line Inv-loop μ-loop
-  Z = c .before .before .before
+module _ (Z : tie.After-send-line Inv-loop μ-loop) where
+  abbrev U : tie.After-usize-of-u32 Inv-loop μ-loop
+  U = Z .before .before
+
+  abbrev B₁ : tie.After-put-beside Inv-loop μ-loop
+  B₁ = U .before .before .before .before
 
   abbrev R : tie.After-waiting-at2 Inv-loop μ-loop
-  R = Z .before .before .before .before .before
+  R = B₁ .before
 
   abbrev G₁ : tie.After-answer Inv-loop μ-loop
   G₁ = R .before .before .before .before
 
+  -- the line falls free after as many ticks as the packet is charged
+  ends-at : A₁ G₁ .loop .now + U .usize-of-u32 .result ≡ A₁ G₁ .loop .now + charge (T (K (A₁ G₁))) (len G₁)
+  ends-at = ap (λ (x : ℕ). A₁ G₁ .loop .now + x) (U .usize-of-u32 .ensures .0 ∙ U .before .charge-of .ensures)
+
 loop-again-3 : tie.Need-loop-again-3 Inv-loop μ-loop
 loop-again-3 c =
-    let q = Z c in
-    let g = G₁ c in
-    rw (c .usize-of-u32 .ensures .0)
-    (sends (here (A₁ g)) (later (J (P g))) _ _ (P g .pick-in .ensures) (f g) (len g) (d g) (v g) (told g) (len g) refl
-    (d g) (v g) refl refl _ (q .send-line .ensures .1) _ (R c .waiting-at2 .ensures) _
-    (q .before .before .before .before .put-beside .ensures) _ (q .send-line .ensures .0))
+    let q = c .before .before in
+    let g = G₁ q in
+    sends (here (A₁ g)) (later (J (P g))) _ _ (P g .pick-in .ensures) (f g) (len g) (d g) (v g) (told g) _ (ends-at q)
+    _ (q .send-line .ensures .1) _ (R q .waiting-at2 .ensures) _
+    (B₁ q .put-beside .ensures) _ (q .send-line .ensures .0)
 
 loop-less-3 : tie.Need-loop-less-3 Inv-loop μ-loop
 loop-less-3 c =
-    let g = G₁ c in
-    sent-less (here (A₁ g)) (later (J (P g))) _ _ (P g .pick-in .ensures) (f g) (len g) (d g) (v g) (told g) _
-    (c .usize-of-u32 .ensures .0)
+    let q = c .before .before in
+    let g = G₁ q in
+    sent-less (here (A₁ g)) (later (J (P g))) _ _ (P g .pick-in .ensures) (f g) (len g) (d g) (v g) (told g) _ (ends-at q)
 
 -- .. it is idle
 module _ (k : tie.At-match-keys2 Inv-loop μ-loop) where
@@ -268,8 +275,26 @@ loop-less-2 g = let k = K₂ g in rw (g .le4 .ensures .0) (jumps-less (here (A�
 small : (a : tie.At-loop Inv-loop μ-loop) → a .loop .at ≤ mostEvents
 small a = omega (arith, a .loop .inv .at-most, given a .1)
 
-now-small : (a : tie.At-loop Inv-loop μ-loop) → a .loop .now ≤ 4294967296 + mostMaximum * mostEvents
+abbrev told-of : tie.After-usize-of-u32 Inv-loop μ-loop → tie.After-answer Inv-loop μ-loop
+told-of c = c .before .before .before .before .before .before .before .before .before
+
+now-small : (a : tie.At-loop Inv-loop μ-loop) → a .loop .now ≤ 4294967296 + mostCharge * mostEvents
 now-small a = omega (arith, a .loop .inv .now-most, few a)
+
+-- the tick after a packet, far below 64 bits
+ticks-on : (c : tie.After-usize-of-u32 Inv-loop μ-loop) →
+    let a = A₁ (told-of c) in
+    a .loop .now + c .usize-of-u32 .result ≤ 4294967296 + mostCharge * (mostEvents + 1)
+ticks-on c =
+    let g = told-of c in
+    omega (
+      arith,
+      now-small (A₁ g),
+      most g,
+      ranged (K (A₁ g)) .overhead-in,
+      c .usize-of-u32 .ensures .0,
+      c .before .charge-of .ensures,
+    )
 
 loop-holds : tie.Need-loop-holds Inv-loop μ-loop
 loop-holds c =
@@ -318,9 +343,10 @@ run-events-spec =
     loop-again-2
     (λ c κs. _)
     (λ c κs. let g = c .before .before .before .before in (beside-fits (here (A₁ g)) (before-last g), few (A₁ g)))
-    (λ c κs. let g = c .before .before .before .before .before .before .before .before in
-    ((fits (A₁ g), few (A₁ g)), omega (arith, now-small (A₁ g), most g)))
+    (λ c. let g = c .before .before .before .before .before .before .before in omega (arith, most g))
+    (λ c κs. let g = c .before .before .before .before .before .before .before in ranged (K (A₁ g)) .overhead-in)
     (λ c κs. _)
-    (λ c. let g = G₁ c in omega (arith, now-small (A₁ g), most g, c .usize-of-u32 .ensures .0))
+    (λ c. omega (arith, ticks-on c))
+    (λ c κs. let g = told-of (c .before) in (fits (A₁ g), few (A₁ g)))
     loop-less-3
     loop-again-3)

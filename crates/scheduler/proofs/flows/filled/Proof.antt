@@ -9,11 +9,11 @@ use Rattle.scheduler.proofs.flows.filled.Statement.{statement}
 use Rattle.scheduler.proofs.flows.filled.Tie as tie
 
 abbrev Inv-loop : tie.InvT-loop
-Inv-loop count records quanta₀ maxima₀ f₀ quanta maxima f =
+Inv-loop count terms records quanta₀ maxima₀ f₀ quanta maxima f =
     (f ≤ count) × (quanta ≡ cells (λ r. r .quantum) 16 (take f records)) × (maxima ≡ cells (λ r. r .maximum) 16 (take f records))
 
 abbrev μ-loop : tie.MeasureT-loop
-μ-loop count records quanta₀ maxima₀ f₀ quanta maxima f = count - f
+μ-loop count terms records quanta₀ maxima₀ f₀ quanta maxima f = count - f
 
 long : (c : tie.Start Inv-loop μ-loop) → c .args .count ≤ length (c .args .t1)
 long c = search needs
@@ -33,7 +33,7 @@ returns c =
     let o = c .before in
     let e : o .loop .f ≡ o .before .args .count = omega arith in
     table-filled (o .before .args .t1) (o .before .args .count) _ _ (long (o .before)) (rw e at (o .loop .inv .1))
-    (rw e at (o .loop .inv .2))
+    (rw e at (o .loop .inv .2)) (o .before .args .terms)
 
 pub filled-spec : {M : Type 1} → statement M
 filled-spec =

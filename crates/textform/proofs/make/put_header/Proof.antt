@@ -19,12 +19,13 @@ returns c =
     let b = s .args .file .now in
     let n = s .args .c .flows in
     let m = s .args .c .events in
+    let o = s .args .c .overhead in
     let u1 = bytes2 n in
     let u2 = u1 ++ bytes2 m in
     let u3 = u2 ++ bytes4 headerSize in
     let u4 = u3 ++ bytes4 (headerSize + 8 * n) in
     let u5 = u4 ++ bytes4 (headerSize + 8 * n + 8 * m) in
-    then-put b u5 (bytes4 0) _ _
+    then-put b u5 (bytes4 o) _ _
     (then-put b u4 (bytes4 (headerSize + 8 * n + 8 * m)) _ _
     (then-put b u3 (bytes4 (headerSize + 8 * n)) _ _
     (then-put b u2 (bytes4 headerSize) _ _

@@ -13,12 +13,13 @@ use Rattle.runfile.specs.File.{Laid, flowCount, fileAnswer, fileTable, fileEven
 use Rattle.runfile.proofs.Files.{file-laid}
 use Rattle.text.specs.Text.{Put}
 use Rattle.text.proofs.Texts.{Filled}
+use Rattle.answers.specs.Printed.{overheadRoom}
 use Rattle.answers.proofs.Given.{given, refusal-fits}
 use Rattle.textform.specs.Made.{each}
-use Rattle.textform.specs.Shown.{flowText, eventText, flowsOf, flowLineRoom, eventLineRoom, shownRoom}
+use Rattle.textform.specs.Shown.{eventText, tableText, flowLineRoom, eventLineRoom, shownRoom}
 use Rattle.textform.proofs.Records.{behind, joined, behind-length, as-put, both-filled, both-length}
 use Rattle.textform.proofs.Shown.{shown-short, shown-fits, shown-refusal, shown-lines}
-use Rattle.textform.proofs.Shown.{table-count, part-count, part-at, flow-lines-fit, event-lines-fit}
+use Rattle.textform.proofs.Shown.{table-count, part-count, part-at, table-lines-fit, event-lines-fit}
 use Rattle.textform.proofs.show.show_text.Statement.{statement}
 use Rattle.textform.proofs.show.show_text.Tie as tie
 
@@ -81,11 +82,11 @@ module _ (e : tie.After-enum-told) where
   starts : p .at ≤ length (file r)
   starts = omega (arith, part-at (file r) ok T p is are, lies .events-inside)
 
-  abbrev flow-lines : List ℕ
-  flow-lines = each flowText (flowsOf T 0 (T .n))
+  abbrev table-lines : List ℕ
+  table-lines = tableText T
 
-  flows-fit : length flow-lines ≤ flowLineRoom * mostFlows
-  flows-fit = flow-lines-fit (file r) ok T p is are
+  table-fits : length table-lines ≤ overheadRoom + flowLineRoom * mostFlows
+  table-fits = table-lines-fit (file r) ok T p is are
 
   abbrev event-lines : List ℕ
   event-lines = each eventText (eventsFrom (behind (file r) (p .at)) 0 (p .count))
@@ -93,28 +94,28 @@ module _ (e : tie.After-enum-told) where
   events-fit : length event-lines ≤ eventLineRoom * mostEvents
   events-fit = event-lines-fit (file r) ok T p is are
 
-  both-fit : length flow-lines + length event-lines ≤ length (buf r)
-  both-fit = omega (arith, room r, flows-fit, events-fit)
+  both-fit : length table-lines + length event-lines ≤ length (buf r)
+  both-fit = omega (arith, room r, table-fits, events-fit)
 
--- the flows are shown
-module _ (f : tie.After-put-flows) where
+-- the table is shown
+module _ (f : tie.After-put-table) where
   abbrev e : tie.After-enum-told
   e = f .before .before .before .before
 
   abbrev begun : List ℕ
-  begun = f .put-flows .last .1 .0
+  begun = f .put-table .last .1 .0
 
   abbrev size : ℕ
-  size = f .put-flows .result
+  size = f .put-table .result
 
-  put : Put (buf (r e)) 0 (flow-lines e) begun size
-  put = as-put (flow-lines e) (buf (r e)) begun size (omega (arith, flows-fit e, room (r e))) (f .put-flows .ensures)
+  put : Put (buf (r e)) 0 (table-lines e) begun size
+  put = as-put (table-lines e) (buf (r e)) begun size (omega (arith, table-fits e, room (r e))) (f .put-table .ensures)
 
   same : length begun ≡ length (buf (r e))
-  same = ap length (put .0) ∙ length-sets (buf (r e)) 0 (flow-lines e)
+  same = ap length (put .0) ∙ length-sets (buf (r e)) 0 (table-lines e)
 
   left : size ≤ length begun
-  left = omega (arith, put .1, same, flows-fit e, room (r e))
+  left = omega (arith, put .1, same, table-fits e, room (r e))
 
 put-events-requires : tie.Need-put-events-requires
 put-events-requires c κs =
@@ -125,27 +126,27 @@ put-events-requires c κs =
     let at = part-at b (ok k) (T k) (p k) (is k) (are k) in (
       omega (arith, many, at, lies k .events-inside, behind-length b (p k .at)),
       omega (arith, many, lies k .events-few),
-      omega (arith, many, lies k .events-few, put f .1, same f, flows-fit k, room (r k), behind-length (begun f) (size f)),
+      omega (arith, many, lies k .events-few, put f .1, same f, table-fits k, room (r k), behind-length (begun f) (size f)),
     )
 
 -- the events are shown behind them
 module _ (t : tie.After-put-events) where
-  abbrev F : tie.After-put-flows
+  abbrev F : tie.After-put-table
   F = t .before .before .before .before .before
 
   abbrev K : tie.After-enum-told
   K = e F
 
-  whole : Filled (flow-lines K ++ event-lines K) (buf (r K)) (joined (begun F) (size F) (t .put-events .last .1 .1 .0))
+  whole : Filled (table-lines K ++ event-lines K) (buf (r K)) (joined (begun F) (size F) (t .put-events .last .1 .1 .0))
       (size F + t .put-events .result)
-  whole = both-filled (flow-lines K) (event-lines K) (buf (r K)) (begun F) _ (size F) _ (both-fit K) (put F) (t .put-events .ensures)
+  whole = both-filled (table-lines K) (event-lines K) (buf (r K)) (begun F) _ (size F) _ (both-fit K) (put F) (t .put-events .ensures)
 
   long : length (joined (begun F) (size F) (t .put-events .last .1 .1 .0)) ≡ length (buf (r K))
-  long = both-length (flow-lines K) (event-lines K) (buf (r K)) (begun F) _ (size F) _ (both-fit K) (put F) (t .put-events .ensures)
+  long = both-length (table-lines K) (event-lines K) (buf (r K)) (begun F) _ (size F) _ (both-fit K) (put F) (t .put-events .ensures)
 
   -- far below 64 bits
   grown : size F + t .put-events .result ≤ shownRoom
-  grown = omega (arith, put F .1, t .put-events .ensures .0, flows-fit K, events-fit K)
+  grown = omega (arith, put F .1, t .put-events .ensures .0, table-fits K, events-fit K)
 
 returns-3 : tie.Need-returns-3
 returns-3 c =
