@@ -29,6 +29,7 @@ struct Flow {
 
 struct Line {
     flows: Vec<Flow>,
+    overhead: u64,
     place: usize,
     open: bool,
 }
@@ -71,9 +72,9 @@ impl Line {
             if self.open {
                 let f = &mut self.flows[self.place];
                 match f.row.front() {
-                    Some(&length) if length <= f.deficit => {
+                    Some(&length) if length + self.overhead <= f.deficit => {
                         f.row.pop_front();
-                        f.deficit -= length;
+                        f.deficit -= length + self.overhead;
                         return Some((self.place, length, f.deficit, visits));
                     }
                     Some(_) => {}
@@ -95,7 +96,7 @@ fn plain_read(b: &[u8]) -> Result<(Line, usize, usize), u32> {
     if b.len() < 20 || b.len() > 12288 || le4(b, 12) != b.len() {
         return Err(9);
     }
-    if le4(b, 16) != 0 {
+    if le4(b, 16) > 64 {
         return Err(10);
     }
     let (n, m, flows_at, events_at) = (le2(b, 0), le2(b, 2), le4(b, 4), le4(b, 8));
@@ -126,7 +127,8 @@ fn plain_read(b: &[u8]) -> Result<(Line, usize, usize), u32> {
             return Err(13);
         }
     }
-    Ok((Line { flows, place: n - 1, open: false }, events_at, m))
+    let overhead = le4(b, 16) as u64;
+    Ok((Line { flows, overhead, place: n - 1, open: false }, events_at, m))
 }
 
 fn plain_run(b: &[u8], out: &mut [u64]) -> u32 {
@@ -160,7 +162,7 @@ fn plain_run(b: &[u8], out: &mut [u64]) -> u32 {
             Some((flow, length, deficit, visits)) => {
                 put(&mut k, [1, now, flow as u64, length, deficit, visits]);
                 sent += 1;
-                now += length;
+                now += length + line.overhead;
                 last = now;
             }
             None if at < m => now = le4(b, events_at + 8 * at) as u64,
@@ -183,7 +185,7 @@ impl Seeded {
 }
 
 // 1,024 events of 64 to 1,500 bytes, that come about as fast as the line carries them.
-fn full_file(flows: usize, quantum: u32) -> Vec<u8> {
+fn full_file(flows: usize, quantum: u32, overhead: u32) -> Vec<u8> {
     let (n, m) = (flows, 1024);
     let size = 20 + 8 * n + 8 * m;
     let mut b = Vec::new();
@@ -192,7 +194,7 @@ fn full_file(flows: usize, quantum: u32) -> Vec<u8> {
     b.extend(20u32.to_le_bytes());
     b.extend((20 + 8 * n as u32).to_le_bytes());
     b.extend((size as u32).to_le_bytes());
-    b.extend(0u32.to_le_bytes());
+    b.extend(overhead.to_le_bytes());
     for _ in 0..n {
         b.extend(quantum.to_le_bytes());
         b.extend(1500u32.to_le_bytes());
@@ -217,9 +219,9 @@ fn time(run: fn(&[u8], &mut [u64]) -> u32, file: &[u8], out: &mut [u64]) -> f64 
 }
 
 fn main() {
-    println!("flows quantum   proved least/middle us   plain least/middle us   ratio");
-    for (flows, quantum) in [(16, 1500), (16, 1), (1, 1500), (1, 1)] {
-        let file = full_file(flows, quantum);
+    println!("flows quantum overhead   proved least/middle us   plain least/middle us   ratio");
+    for (flows, quantum, overhead) in [(16, 1500, 0), (16, 1500, 20), (16, 1, 0), (1, 1500, 0), (1, 1, 0)] {
+        let file = full_file(flows, quantum, overhead);
         let (mut a, mut b) = (vec![7u64; 6150], vec![7u64; 6150]);
         let (mut proved, mut plain) = (Vec::new(), Vec::new());
         for _ in 0..501 {
@@ -230,6 +232,6 @@ fn main() {
         proved.sort_by(f64::total_cmp);
         plain.sort_by(f64::total_cmp);
         let (p, q) = (proved[250], plain[250]);
-        println!("{flows:5} {quantum:7}   {:10.1} {p:10.1}   {:10.1} {q:10.1}   {:5.2}", proved[0], plain[0], p / q);
+        println!("{flows:5} {quantum:7} {overhead:8}   {:10.1} {p:10.1}   {:10.1} {q:10.1}   {:5.2}", proved[0], plain[0], p / q);
     }
 }

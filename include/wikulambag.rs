@@ -15,7 +15,7 @@ pub const QUANTUM_RANGE: u32 = 6;
 pub const MAXIMUM_RANGE: u32 = 7;
 pub const NOT_SOUND: u32 = 8;
 pub const FILE_LENGTH: u32 = 9;
-pub const RESERVED: u32 = 10;
+pub const OVERHEAD_RANGE: u32 = 10;
 pub const EVENT_COUNT: u32 = 11;
 pub const TABLE_PLACE: u32 = 12;
 pub const TICK_ORDER: u32 = 13;
@@ -28,6 +28,7 @@ pub const MOST_QUANTUM: u32 = 65535;
 pub const LEAST_MAXIMUM: u32 = 1;
 pub const MOST_MAXIMUM: u32 = 9216;
 pub const MOST_WAITING: u8 = 32;
+pub const MOST_OVERHEAD: u32 = 64;
 pub const MOST_EVENTS: usize = 1024;
 
 #[derive(Clone, Copy, Default, PartialEq, Eq, Debug)]
@@ -46,8 +47,15 @@ pub struct FlowList {
 
 #[derive(Clone, Copy, Default, PartialEq, Eq, Debug)]
 #[repr(C)]
+pub struct Terms {
+    pub overhead: u32,
+}
+
+#[derive(Clone, Copy, Default, PartialEq, Eq, Debug)]
+#[repr(C)]
 pub struct Table {
     pub n: usize,
+    pub overhead: u32,
     pub quanta: [u32; 16],
     pub maxima: [u32; 16],
 }
@@ -120,7 +128,7 @@ pub struct RunResult {
 // Calls by value take any numbers, so they are safe; the bools of a state are 0 or 1, as Rust keeps them.
 #[link(name = "wikulambag", kind = "static")]
 unsafe extern "C" {
-    pub safe fn wikulambag_setup(list: FlowList) -> SetupResult;
+    pub safe fn wikulambag_setup(list: FlowList, terms: Terms) -> SetupResult;
     pub safe fn wikulambag_sound(s: State) -> bool;
     pub safe fn wikulambag_arrival(s: State, flow: usize, length: u32) -> ArrivalResult;
     pub safe fn wikulambag_pick(s: State) -> PickResult;

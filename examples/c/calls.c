@@ -11,7 +11,8 @@
 int main(void)
 {
     struct wikulambag_flow_list list = {.records = {{500, 800}, {300, 800}, {400, 600}}, .count = 3};
-    struct wikulambag_setup_result made = wikulambag_setup(list);
+    struct wikulambag_terms terms = {.overhead = 0};
+    struct wikulambag_setup_result made = wikulambag_setup(list, terms);
     if (made.refusal) {
         printf("setup refused by %" PRIu32 ", flow %zu\n", made.refusal, made.place);
         return 1;

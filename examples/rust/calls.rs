@@ -10,7 +10,8 @@ mod wikulambag;
 use wikulambag::*;
 
 fn main() {
-    let made = wikulambag_setup(FlowList::of(&[(500, 800), (300, 800), (400, 600)]));
+    let list = FlowList::of(&[(500, 800), (300, 800), (400, 600)]);
+    let made = wikulambag_setup(list, Terms { overhead: 0 });
     if made.refusal != 0 {
         println!("setup refused by {}, flow {}", made.refusal, made.place);
         return;

@@ -15,6 +15,7 @@ static const char *const names[CALLS] = {
 };
 
 static struct wikulambag_flow_list list;
+static struct wikulambag_terms terms = {.overhead = 20};
 static struct wikulambag_state state;
 static uint8_t file[12288];
 static size_t file_size;
@@ -26,7 +27,7 @@ static void *call(void *which)
     unsigned char mark;
     top = (uintptr_t)&mark;
     switch (*(int *)which) {
-    case 0: state = wikulambag_setup(list).state; break;
+    case 0: state = wikulambag_setup(list, terms).state; break;
     case 1: lines[0] = wikulambag_sound(state); break;
     case 2: state = wikulambag_arrival(state, 0, 9216).state; break;
     case 3: state = wikulambag_pick(state).state; break;

@@ -18,7 +18,9 @@ static void see(bool holds, const char *what, size_t f, size_t k)
 
 static bool same(struct wikulambag_state a, struct wikulambag_state b)
 {
-    return memcmp(&a.table, &b.table, sizeof a.table) == 0
+    return a.table.n == b.table.n && a.table.overhead == b.table.overhead
+        && memcmp(a.table.quanta, b.table.quanta, sizeof a.table.quanta) == 0
+        && memcmp(a.table.maxima, b.table.maxima, sizeof a.table.maxima) == 0
         && memcmp(a.line.deficits, b.line.deficits, sizeof a.line.deficits) == 0
         && memcmp(a.line.counts, b.line.counts, sizeof a.line.counts) == 0
         && memcmp(a.line.sums, b.line.sums, sizeof a.line.sums) == 0
@@ -37,6 +39,7 @@ static struct wikulambag_state waiting(void)
     struct wikulambag_state s;
     memset(&s, 0, sizeof s);
     s.table.n = 16;
+    s.table.overhead = 20;
     s.line.place = 15;
     for (size_t f = 0; f < 16; f++) {
         s.table.quanta[f] = (uint32_t)(1000 + f);
@@ -73,6 +76,7 @@ static void each_field_spoilt(void)
     struct wikulambag_state good = visited(), s;
     see(wikulambag_sound(good), "the state as it is", 0, 0);
     s = good, s.table.n = 15, spoilt(s, "n", 0, 0);
+    s = good, s.table.overhead = 65, spoilt(s, "overhead", 0, 0);
     s = good, s.line.place = 16, spoilt(s, "place", 0, 0);
     s = good, s.line.opened = false, spoilt(s, "opened", 0, 0);
     for (size_t f = 0; f < 16; f++) {
@@ -96,7 +100,8 @@ static void made_by_calls(void)
     struct wikulambag_flow_list list = {.count = 16};
     for (size_t f = 0; f < 16; f++)
         list.records[f] = (struct wikulambag_flow_record){(uint32_t)(1000 + f), (uint32_t)(9000 + f)};
-    struct wikulambag_setup_result made = wikulambag_setup(list);
+    struct wikulambag_terms terms = {.overhead = 20};
+    struct wikulambag_setup_result made = wikulambag_setup(list, terms);
     see(made.refusal == 0 && made.place == 0, "setup", 0, 0);
     struct wikulambag_state s = made.state;
     for (size_t f = 0; f < 16; f++) {
@@ -108,9 +113,12 @@ static void made_by_calls(void)
     }
     see(same(s, waiting()), "the state that calls make", 0, 0);
     list.records[11].maximum = 0;
-    made = wikulambag_setup(list);
+    made = wikulambag_setup(list, terms);
     see(made.refusal == WIKULAMBAG_MAXIMUM_RANGE && made.place == 11, "setup's fault", made.place, 0);
-    see(made.state.table.n == 0, "the table beside it", 0, 0);
+    see(made.state.table.n == 0 && made.state.table.overhead == 0, "the table beside it", 0, 0);
+    terms.overhead = 65;
+    made = wikulambag_setup(list, terms);
+    see(made.refusal == WIKULAMBAG_OVERHEAD_RANGE && made.place == 0, "the overhead's fault", made.place, 0);
 }
 
 static void answers(void)
@@ -121,15 +129,16 @@ static void answers(void)
     struct wikulambag_pick_result p = wikulambag_pick(s);
     after.line.deficits[5] = 15;
     after.line.place = 6;
-    after.line.deficits[6] = 16 + 1006 - 392;
+    after.line.deficits[6] = 16 + 1006 - (392 + 20);
     after.line.counts[6] = 6;
     after.line.sums[6] -= 392;
     memmove(after.line.rows[6].lengths, after.line.rows[6].lengths + 1, 31 * sizeof(uint16_t));
     see(p.refusal == 0 && p.sent && p.flow == 6 && p.length == 392, "pick", p.flow, p.length);
-    see(p.deficit == 630 && p.visits == 1 && same(p.state, after), "pick's state", p.deficit, p.visits);
+    see(p.deficit == 610 && p.visits == 1 && same(p.state, after), "pick's state", p.deficit, p.visits);
 
-    uint64_t quanta = 16 * 1000 + 120, maxima = 16 * 9000 + 120;
-    uint64_t lag = 1003 * (maxima - 9003) + (quanta - 1003) * (1003 + 9003);
+    /* flow 3's maximum charge is 9023 */
+    uint64_t quanta = 16 * 1000 + 120, charges = 16 * 9020 + 120;
+    uint64_t lag = 1003 * (charges - 9023) + (quanta - 1003) * (1003 + 9023);
     struct wikulambag_figure_result figure = wikulambag_lag(s, 3);
     see(figure.refusal == 0 && figure.value == lag, "lag", 3, 0);
     figure = wikulambag_wait(s, 3);

@@ -19,7 +19,7 @@ fn flow(f: usize) -> (u32, u32) {
 /// Sixteen flows; flow f has f + 1 packets waiting.
 fn waiting() -> State {
     let mut s = State::default();
-    (s.table.n, s.line.place) = (16, 15);
+    (s.table.n, s.table.overhead, s.line.place) = (16, 20, 15);
     for f in 0..16 {
         (s.table.quanta[f], s.table.maxima[f]) = flow(f);
         s.line.counts[f] = f as u8 + 1;
@@ -58,6 +58,7 @@ fn spoilt(what: &str, spoil: impl Fn(&mut State)) {
 fn each_field_spoilt() {
     assert!(wikulambag_sound(visited()));
     spoilt("n", |s| s.table.n = 15);
+    spoilt("overhead", |s| s.table.overhead = 65);
     spoilt("place", |s| s.line.place = 16);
     spoilt("opened", |s| s.line.opened = false);
     for f in 0..16 {
@@ -82,7 +83,8 @@ fn each_field_spoilt() {
 
 fn made_by_calls() {
     let mut list = FlowList::of(&std::array::from_fn::<_, 16, _>(flow));
-    let made = wikulambag_setup(list);
+    let terms = Terms { overhead: 20 };
+    let made = wikulambag_setup(list, terms);
     assert_eq!((made.refusal, made.place), (0, 0));
     let mut s = made.state;
     for f in 0..16 {
@@ -94,12 +96,14 @@ fn made_by_calls() {
     }
     assert_eq!(s, waiting());
     list.records[11].maximum = 0;
-    let refused = SetupResult {
-        refusal: MAXIMUM_RANGE,
-        place: 11,
+    let refused = |refusal, place| SetupResult {
+        refusal,
+        place,
         state: State::default(),
     };
-    assert_eq!(wikulambag_setup(list), refused);
+    assert_eq!(wikulambag_setup(list, terms), refused(MAXIMUM_RANGE, 11));
+    let over = Terms { overhead: 65 };
+    assert_eq!(wikulambag_setup(list, over), refused(OVERHEAD_RANGE, 0));
 }
 
 fn answers() {
@@ -111,7 +115,7 @@ fn answers() {
         state.line.place,
         state.line.deficits[6],
         state.line.counts[6],
-    ) = (true, 6, 630, 6);
+    ) = (true, 6, 610, 6);
     state.line.sums[6] -= 392;
     state.line.rows[6].lengths.rotate_left(1);
     state.line.rows[6].lengths[31] = 0;
@@ -120,14 +124,15 @@ fn answers() {
         sent: true,
         flow: 6,
         length: 392,
-        deficit: 630,
+        deficit: 610,
         visits: 1,
         state,
     };
     assert_eq!(wikulambag_pick(s), sent);
 
-    let (quanta, maxima) = (16 * 1000 + 120_u64, 16 * 9000 + 120);
-    let lag = 1003 * (maxima - 9003) + (quanta - 1003) * (1003 + 9003);
+    // flow 3's maximum charge is 9023
+    let (quanta, charges) = (16 * 1000 + 120_u64, 16 * 9020 + 120);
+    let lag = 1003 * (charges - 9023) + (quanta - 1003) * (1003 + 9023);
     let owed = (1003 * 4_000_000_000 - lag).div_ceil(quanta);
     let figure = |value| FigureResult { refusal: 0, value };
     assert_eq!(wikulambag_lag(s, 3), figure(lag));

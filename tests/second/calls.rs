@@ -1,23 +1,25 @@
 //! Calls the proved library and the second program on the same states with the same numbers, and
-//! compares answer and state after every call. Along chains of calls from a fresh state it also
-//! checks the floor: what each flow was sent against what it is owed; and along these and along
-//! chains from other sound states the account: what was accepted against what was sent and waits.
+//! compares answer and state after every call. Along chains of calls, from a fresh state and from other
+//! sound ones, it also checks the floor: what each flow was sent against what it is owed; and the
+//! account: what was accepted against what was sent and waits.
 //! With '--caught' it ends at the first difference, which is all that a wrong variant has to show.
 
 mod account;
 mod dice;
 mod drr;
+mod floor;
 mod proved;
 mod states;
 
 use account::Account;
 use dice::Dice;
 use drr::State;
+use floor::{Floor, Stretch};
 use proved::{told_figure, told_pick};
 use wikulambag::{
     wikulambag_arrival, wikulambag_lag, wikulambag_owed, wikulambag_pick, wikulambag_setup,
     wikulambag_sound, wikulambag_wait, wikulambag_waiting_bytes, ArrivalResult, FlowList,
-    PickResult, SetupResult,
+    PickResult, SetupResult, Terms,
 };
 
 const STATES: usize = 60_000;
@@ -124,10 +126,12 @@ fn figures(tally: &mut Tally, s: &State, dice: &mut Dice) {
 
 /// The waits of small quanta beside large ones: the longest there are, past 32 bits.
 fn long_waits(tally: &mut Tally) {
-    for quantum in 1..=4 {
+    let quanta = (1..=4).flat_map(|quantum| [(quantum, 0), (quantum, 64)]);
+    for (quantum, overhead) in quanta {
         for flow in 0..16 {
             let mut s = drr::empty();
             (s.n, s.place) = (16, 15);
+            s.overhead = overhead;
             s.quanta = [65_535; 16];
             s.maxima = [9_216; 16];
             s.quanta[flow] = quantum;
@@ -208,11 +212,16 @@ fn try_false_sums(tally: &mut Tally, dice: &mut Dice) -> [[u64; 16]; 2] {
     falsified
 }
 
-fn try_setups(tally: &mut Tally, dice: &mut Dice) {
+/// Lists and overheads, right and wrong. Gives how often the overhead alone was wrong, and how often the
+/// number of flows was too, so that 10 and 5 both stand against the call.
+fn try_setups(tally: &mut Tally, dice: &mut Dice) -> [u64; 2] {
+    let mut above = [0; 2];
     for _ in 0..SETUPS {
-        let list = states::records(dice);
-        let proved = wikulambag_setup(FlowList::of(&list));
-        let (refusal, place, theirs) = match drr::setup(&list) {
+        let (list, overhead) = (states::records(dice), states::any_overhead(dice));
+        let proved = wikulambag_setup(FlowList::of(&list), Terms { overhead });
+        let count_fits = (1..=16).contains(&list.len());
+        above[usize::from(!count_fits)] += u64::from(overhead > 64);
+        let (refusal, place, theirs) = match drr::setup(&list, overhead) {
             Ok(state) => (0, 0, state),
             Err(r) => (r.number, r.place, drr::empty()),
         };
@@ -224,71 +233,34 @@ fn try_setups(tally: &mut Tally, dice: &mut Dice) {
         tally.setups += 1;
         tally.compare("setup", &proved, &second);
     }
+    above
 }
 
-/// The floor for one flow. A stretch of calls ends at a pick at which nothing of the flow waits.
-/// Over a stretch that sent S bytes, R of them the flow's, F x R is at least Q x S - C; so
-/// Q x S - F x R, added up from the start, never rises by more than C above any earlier value of the
-/// stretch.
-#[derive(Clone, Default)]
-struct Stretch {
-    rise: i128,
-    least: i128,
-    bytes: i128,
-}
-
-/// How many stretches were held to the floor, and in how many of them something was owed.
-#[derive(Default)]
-struct Floor {
-    held: u64,
-    owing: u64,
-    broken: u64,
-}
-
-impl Floor {
-    /// One pick, with the state before it. An idle one has length 0.
-    fn pick(&mut self, stretches: &mut [Stretch], before: &State, answer: &PickResult) {
-        let (to, length) = (answer.flow, i128::from(answer.length));
-        let all: i128 = before.quanta.iter().map(|&q| i128::from(q)).sum();
-        for (flow, stretch) in stretches.iter_mut().enumerate() {
-            let quantum = i128::from(before.quanta[flow]);
-            stretch.rise += quantum * length - if to == flow { all * length } else { 0 };
-            stretch.bytes += length;
-            if before.counts[flow] == 0 {
-                stretch.least = stretch.rise;
-                stretch.bytes = 0;
-                continue;
-            }
-            let c = drr::charge_c(before, flow) as i128;
-            self.held += 1;
-            self.owing += u64::from(quantum * stretch.bytes > c);
-            self.broken += u64::from(stretch.rise - stretch.least > c);
-            stretch.least = stretch.least.min(stretch.rise);
-        }
-    }
-}
-
-/// A chain of calls by both, with its account.
+/// A chain of calls by both, with its account and each flow's stretch.
 struct Chain {
     ours: Ours,
     theirs: State,
     account: Account,
+    stretches: Vec<Stretch>,
 }
 
-/// How often the account was held, and how many refused arrivals it had to leave out.
+/// How often the account was held, how many refused arrivals it had to leave out, and the floor.
 #[derive(Default)]
 struct Held {
     flows: u64,
     together: u64,
     refused: u64,
+    floor: Floor,
 }
 
 impl Chain {
     fn from_fresh(dice: &mut Dice) -> Chain {
-        let theirs = drr::setup(&states::flows(dice)).expect("a table within the limits");
+        let (flows, overhead) = (states::flows(dice), states::overhead(dice));
+        let theirs = drr::setup(&flows, overhead).expect("a table within the limits");
         Chain {
             ours: Ours::from(&theirs),
             account: Account::default(),
+            stretches: vec![Stretch::default(); theirs.n],
             theirs,
         }
     }
@@ -300,8 +272,9 @@ impl Chain {
         let waited = std::array::from_fn(|flow| waiting(tally, &ours, &theirs, flow));
         Chain {
             ours,
-            theirs,
             account: Account::after(waited),
+            stretches: vec![Stretch::default(); theirs.n],
+            theirs,
         }
     }
 
@@ -313,11 +286,12 @@ impl Chain {
         self.hold(tally, held, flow);
     }
 
-    fn pick(&mut self, tally: &mut Tally, held: &mut Held) -> PickResult {
+    fn pick(&mut self, tally: &mut Tally, held: &mut Held) {
+        let before = self.theirs.clone();
         let answer = pick(tally, &mut self.ours, &mut self.theirs);
+        held.floor.pick(&mut self.stretches, &before, &answer);
         self.account.pick(&answer);
         self.hold(tally, held, answer.flow);
-        answer
     }
 
     /// The account of the flow that a call named.
@@ -349,18 +323,15 @@ impl Chain {
 
 /// A chain of calls from a fresh state: arrivals and picks, refused ones among them, and bursts of
 /// arrivals. In some chains arrivals outnumber picks, so that flows wait for long.
-fn try_chain(tally: &mut Tally, floor: &mut Floor, held: &mut Held, dice: &mut Dice) {
+fn try_chain(tally: &mut Tally, held: &mut Held, dice: &mut Dice) {
     let mut chain = Chain::from_fresh(dice);
-    let mut stretches = vec![Stretch::default(); chain.theirs.n];
     let arrivals = dice.between(1, 5);
     for call in 0..CHAIN_CALLS {
         let burst = call % 300 < 40;
         if burst || dice.between(1, 6) <= arrivals {
             chain.arrival(tally, held, dice);
         } else {
-            let before = chain.theirs.clone();
-            let answer = chain.pick(tally, held);
-            floor.pick(&mut stretches, &before, &answer);
+            chain.pick(tally, held);
         }
         if dice.once_in(60) {
             figures(tally, &chain.theirs, dice);
@@ -404,16 +375,33 @@ fn report_states(
 }
 
 /// The same of the chains.
-fn report_chains(floor: &Floor, held: &Held) -> bool {
+fn report_chains(held: &Held) -> bool {
+    let floor = &held.floor;
     println!(
-        "{} stretches held to the floor, {} with something owed, {} below it",
-        floor.held, floor.owing, floor.broken
+        "{} stretches held to the floor, {} with something owed, {} of these with an overhead, {} below it",
+        floor.held, floor.owing, floor.charged, floor.broken
     );
     println!(
         "the account held {} times for a flow and {} for all flows, beside {} refused arrivals",
         held.flows, held.together, held.refused
     );
-    floor.owing > 0 && held.refused > 0
+    floor.owing > floor.charged && floor.charged > 0 && held.refused > 0
+}
+
+/// All chains; to the first stretch below the floor, where that is all that is asked.
+fn try_chains(tally: &mut Tally, dice: &mut Dice) -> Held {
+    let mut held = Held::default();
+    for chain in 0..CHAINS + LATER_CHAINS {
+        match chain < CHAINS {
+            true => try_chain(tally, &mut held, dice),
+            false => try_later_chain(tally, &mut held, dice),
+        }
+        if tally.to_first && held.floor.broken > 0 {
+            println!("chain {chain}, a stretch below the floor");
+            std::process::exit(1);
+        }
+    }
+    held
 }
 
 fn main() {
@@ -422,26 +410,22 @@ fn main() {
         ..Tally::default()
     };
     let mut dice = Dice(1995);
-    try_setups(&mut tally, &mut dice);
+    let [above, above_both] = try_setups(&mut tally, &mut dice);
     long_waits(&mut tally);
     let broken = try_states(&mut tally, &mut dice);
     let falsified = try_false_sums(&mut tally, &mut dice);
-    let (mut floor, mut held) = (Floor::default(), Held::default());
-    for _ in 0..CHAINS {
-        try_chain(&mut tally, &mut floor, &mut held, &mut dice);
-    }
-    for _ in 0..LATER_CHAINS {
-        try_later_chain(&mut tally, &mut held, &mut dice);
-    }
+    let held = try_chains(&mut tally, &mut dice);
     let all_states = report_states(&tally, &broken, &falsified);
-    let all_chains = report_chains(&floor, &held);
+    let all_chains = report_chains(&held);
     println!(
         "{} setups, {} arrivals, {} picks, {} figures, {} of them waits past 32 bits, {} waiting bytes",
         tally.setups, tally.arrivals, tally.picks, tally.figures, tally.long_waits, tally.waiting
     );
+    println!("{above} setups with an overhead above 64 alone, {above_both} also with a wrong number of flows");
     println!("{} calls compared, {} differ", tally.calls(), tally.differ);
-    let all_seen = all_states && all_chains && tally.long_waits > 0;
-    if tally.differ > 0 || floor.broken > 0 || !all_seen {
+    let all_setups = above > 0 && above_both > 0;
+    let all_seen = all_setups && all_states && all_chains && tally.long_waits > 0;
+    if tally.differ > 0 || held.floor.broken > 0 || !all_seen {
         std::process::exit(1);
     }
 }

@@ -22,6 +22,12 @@ struct Case {
 }
 
 impl Case {
+    /// The file's overhead, in the last four bytes of its header.
+    fn overhead(mut self, overhead: u32) -> Case {
+        self.file[16..20].copy_from_slice(&overhead.to_le_bytes());
+        self
+    }
+
     fn waiting(self, waiting: &'static [&'static str]) -> Case {
         Case { waiting, ..self }
     }
@@ -37,7 +43,7 @@ fn case(
     Case {
         name,
         says,
-        file: files::plain(flows, events),
+        file: files::plain(flows, events, 0),
         telling,
         waiting: &[],
     }
@@ -53,7 +59,10 @@ fn cases() -> Vec<Case> {
     cases.extend(waiting_cases());
     cases.extend(tick_cases());
     cases.extend(refused_cases());
-    cases.extend(unknown_flow_cases());
+    cases.extend([unknown_flow_case(), unknown_flow_of_16_case()]);
+    cases.extend([overhead_1_case(), overhead_20_case()]);
+    cases.extend([overhead_20_worked_case(), overhead_64_case()]);
+    cases.extend(overhead_refused_cases());
     cases
 }
 
@@ -344,51 +353,182 @@ fn refused_cases() -> Vec<Case> {
 }
 
 /// Nothing waits in a flow that the table does not have.
-fn unknown_flow_cases() -> Vec<Case> {
+fn unknown_flow_case() -> Case {
+    let events = [
+        (0, 0, 200),
+        (0, 0, 750),
+        (0, 3, 10),
+        (0, 16, 10),
+        (0, 65_535, 10),
+    ];
+    case(
+        "bytes-unknown-flow",
+        "flow numbers 3, 16 and 65,535 beside three flows, one of them with packets waiting",
+        &[(500, 800), (300, 800), (400, 600)],
+        &events,
+        &[
+            "D 0 3 10 1",
+            "D 0 65535 10 1",
+            "S 200 0 750 50 1",
+            "E 950 2 3",
+        ],
+    )
+    .waiting(&[
+        "D 0 3 10 1 0",
+        "D 0 16 10 1 0",
+        "D 0 65535 10 1 0",
+        "S 0 0 200 300 1 750",
+        "S 200 0 750 50 1 0",
+    ])
+}
+
+fn unknown_flow_of_16_case() -> Case {
+    case(
+        "bytes-unknown-flow-of-16",
+        "flow numbers 16 and 65,535 beside 16 flows, the first and last with one waiting",
+        &[(160, 160); 16],
+        &[(0, 15, 100), (0, 0, 90), (0, 16, 1), (0, 65_535, 1)],
+        &[
+            "D 0 16 1 1",
+            "S 0 0 90 70 1",
+            "S 90 15 100 60 1",
+            "E 190 2 2",
+        ],
+    )
+    .waiting(&[
+        "D 0 16 1 1 0",
+        "D 0 65535 1 1 0",
+        "S 0 0 90 70 1 0",
+        "S 90 15 100 60 1 0",
+    ])
+}
+
+/// Charges 100 and 101: the quantum reaches the first, and the second only twice. The limit of an arrival is
+/// on the length.
+fn overhead_1_case() -> Case {
+    case(
+        "overhead-1",
+        "overhead 1: quantum 100 reaches length 99, and length 100 in two visits; 101 is refused",
+        &[(100, 100)],
+        &[(0, 0, 99), (0, 0, 100), (0, 0, 101)],
+        &[
+            "D 0 0 101 3",
+            "S 0 0 99 0 1",
+            "S 100 0 100 99 2",
+            "E 201 2 1",
+        ],
+    )
+    .overhead(1)
+    .waiting(&[
+        "D 0 0 101 3 199",
+        "S 0 0 99 0 1 100",
+        "S 100 0 100 99 2 0",
+        "E 201 2 1",
+    ])
+}
+
+/// Charges 84, 1,538 and 21. Two events stand at the very ticks at which a packet's charge ends.
+fn overhead_20_case() -> Case {
+    let events = [
+        (0, 0, 64),
+        (0, 0, 64),
+        (0, 0, 64),
+        (0, 1, 1_518),
+        (84, 0, 1),
+        (1_706, 1, 1),
+    ];
+    case(
+        "overhead-20",
+        "overhead 20: tiny frames beside large ones, two frames of 64 for a quantum of 168",
+        &[(168, 64), (1_538, 1_518)],
+        &events,
+        &[
+            "S 0 0 64 84 1",
+            "S 84 0 64 0 0",
+            "S 168 1 1518 0 1",
+            "S 1706 0 64 84 1",
+            "S 1790 0 1 63 0",
+            "S 1811 1 1 1517 1",
+            "E 1832 6 0",
+        ],
+    )
+    .overhead(20)
+    .waiting(&[
+        "S 0 0 64 84 1 128",
+        "S 84 0 64 0 0 65",
+        "S 168 1 1518 0 1 0",
+        "S 1706 0 64 84 1 1",
+        "S 1790 0 1 63 0 0",
+        "S 1811 1 1 1517 1 0",
+    ])
+}
+
+/// Charges 220, 770, 520, 420 and 270.
+fn overhead_20_worked_case() -> Case {
+    Case {
+        name: "overhead-20-worked",
+        says: "the worked example with overhead 20",
+        file: files::charged_worked(20),
+        telling: &[
+            "S 0 0 200 280 1",
+            "D 100 2 700 3",
+            "S 220 0 750 10 3",
+            "S 990 1 500 80 1",
+            "S 1510 2 400 380 1",
+            "S 1930 1 250 110 1",
+            "E 2200 5 1",
+        ],
+        waiting: &[
+            "S 0 0 200 280 1 750",
+            "D 100 2 700 3 400",
+            "S 220 0 750 10 3 0",
+            "S 990 1 500 80 1 250",
+            "S 1510 2 400 380 1 0",
+            "S 1930 1 250 110 1 0",
+        ],
+    }
+}
+
+/// Charges 65 and 9,280: the least that a packet can have beside this overhead, and the most of all.
+fn overhead_64_case() -> Case {
+    case(
+        "overhead-64",
+        "overhead 64: length 1 on a quantum of 64 beside length 9,216 on one of 9,280",
+        &[(64, 1), (9_280, 9_216)],
+        &[(0, 0, 1), (0, 1, 9_216), (0, 1, 9_216)],
+        &[
+            "S 0 1 9216 0 2",
+            "S 9280 0 1 63 1",
+            "S 9345 1 9216 0 1",
+            "E 18625 3 0",
+        ],
+    )
+    .overhead(64)
+    .waiting(&[
+        "S 0 1 9216 0 2 9216",
+        "S 9280 0 1 63 1 0",
+        "S 9345 1 9216 0 1 0",
+        "E 18625 3 0",
+    ])
+}
+
+fn overhead_refused_cases() -> Vec<Case> {
+    let with = |name, says, flows: &[files::Flow]| {
+        let refused = case(name, says, flows, &[(0, 0, 100)], &["R 10 0"]);
+        refused.overhead(65).waiting(&["R 10 0"])
+    };
     vec![
-        case(
-            "bytes-unknown-flow",
-            "flow numbers 3, 16 and 65,535 beside three flows, one of them with packets waiting",
-            &[(500, 800), (300, 800), (400, 600)],
-            &[
-                (0, 0, 200),
-                (0, 0, 750),
-                (0, 3, 10),
-                (0, 16, 10),
-                (0, 65_535, 10),
-            ],
-            &[
-                "D 0 3 10 1",
-                "D 0 65535 10 1",
-                "S 200 0 750 50 1",
-                "E 950 2 3",
-            ],
-        )
-        .waiting(&[
-            "D 0 3 10 1 0",
-            "D 0 16 10 1 0",
-            "D 0 65535 10 1 0",
-            "S 0 0 200 300 1 750",
-            "S 200 0 750 50 1 0",
-        ]),
-        case(
-            "bytes-unknown-flow-of-16",
-            "flow numbers 16 and 65,535 beside 16 flows, the first and last with one waiting",
-            &[(160, 160); 16],
-            &[(0, 15, 100), (0, 0, 90), (0, 16, 1), (0, 65_535, 1)],
-            &[
-                "D 0 16 1 1",
-                "S 0 0 90 70 1",
-                "S 90 15 100 60 1",
-                "E 190 2 2",
-            ],
-        )
-        .waiting(&[
-            "D 0 16 1 1 0",
-            "D 0 65535 1 1 0",
-            "S 0 0 90 70 1 0",
-            "S 90 15 100 60 1 0",
-        ]),
+        with("overhead-65", "overhead 65: refused", &[(500, 800)]),
+        with(
+            "overhead-65-no-flow",
+            "overhead 65 and no flow: refused for the overhead",
+            &[],
+        ),
+        with(
+            "overhead-65-flows-17",
+            "overhead 65 and 17 flows: refused for the overhead",
+            &[(500, 800); 17],
+        ),
     ]
 }
 

@@ -11,12 +11,15 @@ const FLOWS: RangeInclusive<usize> = 1..=16;
 const QUANTUM: RangeInclusive<u32> = 1..=65_535;
 const MAXIMUM: RangeInclusive<u32> = 1..=9_216;
 const WAITING: u8 = 32;
+const OVERHEAD: RangeInclusive<u32> = 0..=64;
 const EVENTS: u64 = 1_024;
 
 /// The table and its state. Unused cells and unused flows are zero.
 #[derive(Clone, PartialEq, Debug)]
 pub struct State {
     pub n: usize,
+    /// What a packet is charged beside its length.
+    pub overhead: u32,
     pub quanta: [u32; 16],
     pub maxima: [u32; 16],
     pub deficits: [u32; 16],
@@ -60,6 +63,7 @@ fn refused<T>(number: u32, place: usize) -> Result<T, Refused> {
 pub fn empty() -> State {
     State {
         n: 0,
+        overhead: 0,
         quanta: [0; 16],
         maxima: [0; 16],
         deficits: [0; 16],
@@ -71,14 +75,21 @@ pub fn empty() -> State {
     }
 }
 
-/// A fresh state from the list of (quantum, maximum).
-pub fn setup(flows: &[(u32, u32)]) -> Result<State, Refused> {
-    if !FLOWS.contains(&flows.len()) {
-        return refused(5, 0);
+/// A fresh state from the list of (quantum, maximum) and the overhead per packet.
+pub fn setup(flows: &[(u32, u32)], overhead: u32) -> Result<State, Refused> {
+    for number in [10, 5] {
+        let fits = match number {
+            10 => OVERHEAD.contains(&overhead),
+            _ => FLOWS.contains(&flows.len()),
+        };
+        if !fits {
+            return refused(number, 0);
+        }
     }
     test_ranges(flows)?;
     let mut s = empty();
     s.n = flows.len();
+    s.overhead = overhead;
     s.place = s.n - 1;
     for (f, &(quantum, maximum)) in flows.iter().enumerate() {
         s.quanta[f] = quantum;
@@ -109,6 +120,7 @@ pub fn sound(s: &State) -> bool {
     let place_fits = s.place < s.n || (s.n == 0 && s.place == 0 && !s.opened);
     s.n <= 16
         && place_fits
+        && OVERHEAD.contains(&s.overhead)
         && (0..s.n).all(|f| numbers_in_range(s, f))
         && (0..s.n).all(|f| lengths_in_range(s, f))
         && (0..s.n).all(|f| sum_is_true(s, f))
@@ -142,8 +154,13 @@ fn deficit_fits(s: &State, f: usize) -> bool {
     } else if s.counts[f] == 0 {
         s.deficits[f] == 0
     } else {
-        s.deficits[f] < u32::from(s.rows[f][0])
+        s.deficits[f] < charge(s, s.rows[f][0].into())
     }
+}
+
+/// What a packet of this length costs its flow and the line, where the overhead is in range.
+fn charge(s: &State, length: u32) -> u32 {
+    length + s.overhead
 }
 
 fn unused_is_zero(s: &State) -> bool {
@@ -152,6 +169,7 @@ fn unused_is_zero(s: &State) -> bool {
     (0..s.n).all(|f| cells(f, usize::from(s.counts[f])))
         && (s.n..16).all(|f| numbers(f) && s.counts[f] == 0 && cells(f, 0))
         && (s.n..16).all(|f| s.sums[f] == 0)
+        && (s.n > 0 || s.overhead == 0)
 }
 
 /// An arrival: the refusal number, or 0 where it was accepted.
@@ -229,7 +247,7 @@ fn next_waiting(s: &State) -> Option<usize> {
 
 /// Whether the place has a packet waiting, and the credit for it.
 fn may_send(s: &State) -> bool {
-    let oldest = u32::from(s.rows[s.place][0]);
+    let oldest = charge(s, s.rows[s.place][0].into());
     s.counts[s.place] > 0 && oldest <= s.deficits[s.place]
 }
 
@@ -241,7 +259,7 @@ fn send(s: &mut State, visits: u32) -> Picked {
     s.rows[flow][31] = 0;
     s.counts[flow] -= 1;
     s.sums[flow] -= length;
-    let deficit = s.deficits[flow] - length;
+    let deficit = s.deficits[flow] - charge(s, length);
     s.deficits[flow] = deficit;
     Picked::Sent {
         flow,
@@ -251,20 +269,23 @@ fn send(s: &mut State, visits: u32) -> Picked {
     }
 }
 
-/// C of a flow, from Q and l of the flow, F and L of the table. It is 0 for a flow above 15.
-pub fn charge_c(s: &State, flow: usize) -> u128 {
-    let sum = |numbers: &[u32; 16]| {
-        numbers
-            .iter()
-            .map(|&number| u128::from(number))
-            .sum::<u128>()
-    };
-    let of = |numbers: &[u32; 16]| numbers.get(flow).map_or(0, |&number| u128::from(number));
-    let (q, l) = (of(&s.quanta), of(&s.maxima));
-    q * (sum(&s.maxima) - l) + (sum(&s.quanta) - q) * (q + l)
+/// C of a flow, from Q and l of the flow, F and L of the table, each l raised by the overhead. It is 0
+/// for a flow above 15.
+pub fn c_of(s: &State, flow: usize) -> u128 {
+    let (quanta, charges) = (s.quanta.map(u128::from), maximum_charges(s));
+    let sum = |numbers: &[u128; 16]| numbers.iter().sum::<u128>();
+    let of = |numbers: &[u128; 16]| numbers.get(flow).copied().unwrap_or(0);
+    let (q, l) = (of(&quanta), of(&charges));
+    q * (sum(&charges) - l) + (sum(&quanta) - q) * (q + l)
 }
 
-/// The bytes owed to a flow once the line has sent `bytes`; refusals 8 and 1.
+/// The charge of the longest packet of each flow; 0 for an unused flow.
+fn maximum_charges(s: &State) -> [u128; 16] {
+    let overhead = |f: usize| if f < s.n { s.overhead } else { 0 };
+    std::array::from_fn(|f| u128::from(s.maxima[f]) + u128::from(overhead(f)))
+}
+
+/// What is owed to a flow once the line has sent `bytes`, both in charges; refusals 8 and 1.
 pub fn owed(s: &State, flow: usize, bytes: u64) -> Result<u64, u32> {
     if !sound(s) {
         return Err(8);
@@ -275,7 +296,7 @@ pub fn owed(s: &State, flow: usize, bytes: u64) -> Result<u64, u32> {
     // k times F is at least Q times S - C, written without a number below 0. Since Q is at most F,
     // the bytes sent are always enough.
     let f: u128 = s.quanta.iter().map(|&quantum| u128::from(quantum)).sum();
-    let c = charge_c(s, flow);
+    let c = c_of(s, flow);
     let asked = u128::from(s.quanta[flow]) * u128::from(bytes);
     Ok(least(bytes, |k| u128::from(k) * f + c >= asked))
 }
@@ -291,7 +312,7 @@ pub fn wait(s: &State, flow: usize) -> Result<u64, u32> {
 /// C of a flow, asked as a figure; refusals 8 and 1.
 pub fn lag(s: &State, flow: usize) -> Result<u64, u32> {
     owed(s, flow, 0)?;
-    Ok(charge_c(s, flow) as u64)
+    Ok(c_of(s, flow) as u64)
 }
 
 /// The bytes that wait in a flow; refusals 8 and 1.
@@ -324,9 +345,10 @@ fn least(most: u64, holds: impl Fn(u64) -> bool) -> u64 {
     low
 }
 
-/// What a run file holds: (quantum, maximum) of each flow, and the events.
+/// What a run file holds: the overhead, (quantum, maximum) of each flow, and the events.
 #[derive(Clone, PartialEq, Debug)]
 pub struct RunFile {
+    pub overhead: u32,
     pub flows: Vec<(u32, u32)>,
     pub events: Vec<Event>,
 }
@@ -365,7 +387,7 @@ impl Table {
 struct Header {
     size: u64,
     stated: u64,
-    reserved: u64,
+    overhead: u32,
     flows: Table,
     events: Table,
 }
@@ -376,7 +398,7 @@ impl Header {
         Header {
             size: file.len() as u64,
             stated: field(12, 4),
-            reserved: field(16, 4),
+            overhead: number_at(file, 16, 4),
             flows: Table {
                 offset: field(4, 4),
                 records: field(0, 2),
@@ -393,7 +415,7 @@ impl Header {
         let tables = [&self.flows, &self.events];
         match number {
             9 => self.size < 20 || self.size > 12_288 || self.stated != self.size,
-            10 => self.reserved != 0,
+            10 => !OVERHEAD.contains(&self.overhead),
             5 => self.flows.records == 0 || self.flows.records > 16,
             11 => self.events.records > EVENTS,
             _ => {
@@ -414,8 +436,8 @@ fn number_at(file: &[u8], at: usize, bytes: usize) -> u32 {
         .fold(0, |number, &byte| number * 256 + u32::from(byte))
 }
 
-/// Reads the flow table of a run file: refusals 9, 10, 5, 11, 12, then 6 and 7 by flow.
-pub fn read_flows(file: &[u8]) -> Result<Vec<(u32, u32)>, Refused> {
+/// Reads the flow table and the overhead of a run file: refusals 9, 10, 5, 11, 12, then 6 and 7 by flow.
+pub fn read_flows(file: &[u8]) -> Result<(Vec<(u32, u32)>, u32), Refused> {
     let header = Header::of(file);
     for number in [9, 10, 5, 11, 12] {
         if header.gives(number) {
@@ -426,19 +448,23 @@ pub fn read_flows(file: &[u8]) -> Result<Vec<(u32, u32)>, Refused> {
         (number_at(record, 0, 4), number_at(record, 4, 4))
     });
     test_ranges(&flows)?;
-    Ok(flows)
+    Ok((flows, header.overhead))
 }
 
 /// Reads a run file: the refusals of its flow table, then 13.
 pub fn read(file: &[u8]) -> Result<RunFile, Refused> {
-    let flows = read_flows(file)?;
+    let (flows, overhead) = read_flows(file)?;
     let events = records(file, &Header::of(file).events, |record| Event {
         tick: number_at(record, 0, 4),
         flow: number_at(record, 4, 2) as u16,
         length: number_at(record, 6, 2) as u16,
     });
     test_ticks(&events)?;
-    Ok(RunFile { flows, events })
+    Ok(RunFile {
+        overhead,
+        flows,
+        events,
+    })
 }
 
 /// The records of a table, read from the part of the file that starts at its offset.
@@ -472,11 +498,11 @@ struct Line {
 }
 
 fn listed(file: &[u8], room: usize) -> Result<Vec<Line>, Refused> {
-    let RunFile { flows, events } = read(file)?;
-    if room < 6 * (events.len() + 1) {
+    let file = read(file)?;
+    if room < 6 * (file.events.len() + 1) {
         return refused(14, 0);
     }
-    Ok(listing(setup(&flows)?, &events))
+    Ok(listing(setup(&file.flows, file.overhead)?, &file.events))
 }
 
 /// A run in progress.
@@ -507,7 +533,7 @@ impl Run<'_> {
         }
     }
 
-    /// Makes a pick; the length of the packet sent, or none on idle. A packet sent gives a line.
+    /// Makes a pick; the charge of the packet sent, or none on idle. A packet sent gives a line.
     fn pick_at(&mut self, now: u64) -> Option<u64> {
         let Picked::Sent {
             flow,
@@ -522,11 +548,11 @@ impl Run<'_> {
         let numbers = [1, now, flow as u64, answer[0], answer[1], answer[2]];
         let waiting = waiting_in(&self.state, flow);
         self.lines.push(Line { numbers, waiting });
-        Some(answer[0])
+        Some(charge(&self.state, length).into())
     }
 }
 
-/// The run of a fresh state on a line that sends one byte per tick.
+/// The run of a fresh state on a line that sends one byte per tick, the overhead of each packet too.
 fn listing(state: State, events: &[Event]) -> Vec<Line> {
     let mut run = Run {
         state,
@@ -539,9 +565,9 @@ fn listing(state: State, events: &[Event]) -> Vec<Line> {
     let mut end = events.last().map_or(0, |event| u64::from(event.tick));
     run.book_until(0);
     loop {
-        if let Some(length) = run.pick_at(now) {
+        if let Some(ticks) = run.pick_at(now) {
             sent += 1;
-            now += length;
+            now += ticks;
             end = now;
             run.book_until(end);
         } else if let Some(next) = run.events.first() {
@@ -614,17 +640,20 @@ pub struct Dress {
     pub rate: Option<u64>,
 }
 
-/// What `drrfigures` prints for a file: for each flow its number, quantum, maximum, C, wait, and
-/// owed for each number of bytes; with a rate also the wait in seconds.
+/// What `drrfigures` prints for a file: the overhead where it is not 0; for each flow its number,
+/// quantum, maximum, C, wait, and owed for each number of bytes; with a rate also the wait in seconds.
 pub fn figures_text(file: &[u8], sizes: &[u32], dress: Dress) -> String {
-    let state = match read_flows(file).and_then(|flows| setup(&flows)) {
+    let read = read_flows(file).and_then(|(flows, overhead)| setup(&flows, overhead));
+    let state = match read {
         Ok(state) => state,
         Err(refused) => return refused_text(&refused),
     };
     let lines = (0..state.n).map(|flow| figures_of(&state, flow, sizes, dress.rate));
     let titles = dress.header.then(|| titles(sizes, dress.rate));
+    let overhead = ["overhead".to_string(), state.overhead.to_string()].to_vec();
+    let overhead = (state.overhead > 0).then_some(overhead);
     let parting = if dress.csv { "," } else { " " };
-    let rows = titles.into_iter().chain(lines);
+    let rows = overhead.into_iter().chain(titles).chain(lines);
     rows.map(|row| row.join(parting) + "\n").collect()
 }
 
@@ -644,7 +673,7 @@ fn figures_of(s: &State, flow: usize, sizes: &[u32], rate: Option<u64>) -> Vec<S
         flow.to_string(),
         s.quanta[flow].to_string(),
         s.maxima[flow].to_string(),
-        charge_c(s, flow).to_string(),
+        c_of(s, flow).to_string(),
         wait.to_string(),
     ];
     for &bytes in sizes {
@@ -673,7 +702,12 @@ mod tests {
     const TABLE: [(u32, u32); 3] = [(500, 800), (300, 800), (400, 600)];
 
     fn table() -> State {
-        setup(&TABLE).unwrap()
+        charged(0)
+    }
+
+    /// The fresh state of that table with an overhead.
+    fn charged(overhead: u32) -> State {
+        setup(&TABLE, overhead).unwrap()
     }
 
     fn sent(flow: usize, length: u32, deficit: u32, visits: u32) -> Picked {
@@ -687,12 +721,16 @@ mod tests {
 
     /// A run file without gaps, the flow table first.
     fn file(flows: &[(u32, u32)], events: &[(u32, u16, u16)]) -> Vec<u8> {
+        charged_file(flows, events, 0)
+    }
+
+    fn charged_file(flows: &[(u32, u32)], events: &[(u32, u16, u16)], overhead: u32) -> Vec<u8> {
         let end = 20 + 8 * flows.len() as u32;
         let size = end + 8 * events.len() as u32;
         let mut file = Vec::new();
         file.extend((flows.len() as u16).to_le_bytes());
         file.extend((events.len() as u16).to_le_bytes());
-        for field in [20, end, size, 0] {
+        for field in [20, end, size, overhead] {
             file.extend(field.to_le_bytes());
         }
         for (quantum, maximum) in flows {
@@ -711,6 +749,11 @@ mod tests {
         text(&run(&file(flows, events), 6 * (events.len() + 1)))
     }
 
+    /// The run of one flow with an overhead.
+    fn charged_run(flow: (u32, u32), events: &[(u32, u16, u16)], overhead: u32) -> String {
+        texts(&charged_file(&[flow], events, overhead))[0].clone()
+    }
+
     fn waiting_of(flows: &[(u32, u32)], events: &[(u32, u16, u16)]) -> String {
         let [_, waiting] = texts(&file(flows, events));
         waiting
@@ -718,17 +761,17 @@ mod tests {
 
     #[test]
     fn p01_c_of_flow_0() {
-        assert_eq!(charge_c(&table(), 0), 1_610_000);
+        assert_eq!(c_of(&table(), 0), 1_610_000);
     }
 
     #[test]
     fn p02_c_of_flow_1() {
-        assert_eq!(charge_c(&table(), 1), 1_410_000);
+        assert_eq!(c_of(&table(), 1), 1_410_000);
     }
 
     #[test]
     fn p03_c_of_flow_2() {
-        assert_eq!(charge_c(&table(), 2), 1_440_000);
+        assert_eq!(c_of(&table(), 2), 1_440_000);
     }
 
     #[test]
@@ -764,15 +807,17 @@ mod tests {
     #[test]
     fn p10_one_flow() {
         for flow in [(1, 1), (500, 800), (65_535, 9_216)] {
-            let alone = setup(&[flow]).unwrap();
-            assert_eq!(owed(&alone, 0, 7), Ok(7));
-            assert_eq!(wait(&alone, 0), Ok(1));
+            for overhead in [0, 1, 20, 64] {
+                let alone = setup(&[flow], overhead).unwrap();
+                assert_eq!(owed(&alone, 0, 7), Ok(7));
+                assert_eq!(wait(&alone, 0), Ok(1));
+            }
         }
     }
 
     #[test]
     fn p11_two_equal_flows() {
-        let two = setup(&[(1500, 1500), (1500, 1500)]).unwrap();
+        let two = setup(&[(1500, 1500), (1500, 1500)], 0).unwrap();
         assert_eq!([wait(&two, 0), wait(&two, 1)], [Ok(4501), Ok(4501)]);
     }
 
@@ -878,6 +923,64 @@ mod tests {
         assert_eq!(waiting_of(&TABLE, &[]), "E 0 0 0\n");
     }
 
+    /// The worked example with 20 on top of each packet: ticks and deficits are of charges, lengths and
+    /// bytes waiting are not.
+    #[test]
+    fn worked_example_with_an_overhead() {
+        let expected = "S 0 0 200 280 1 750\nD 100 2 700 3 400\nS 220 0 750 10 3 0\n\
+                        S 990 1 500 80 1 250\nS 1510 2 400 380 1 0\nS 1930 1 250 110 1 0\n\
+                        E 2200 5 1\n";
+        let [plain, waiting] = texts(&charged_file(&TABLE, &WORKED, 20));
+        assert_eq!(waiting, expected);
+        let shorter = |line: &str| line.rsplit_once(' ').unwrap().0.to_string() + "\n";
+        let lines: Vec<&str> = expected.lines().collect();
+        let short: String = lines[..6].iter().map(|line| shorter(line)).collect();
+        assert_eq!(plain, short + "E 2200 5 1\n");
+    }
+
+    /// A packet goes where the deficit reaches its charge, and not where it reaches its length alone; the
+    /// limits of an arrival are on the length.
+    #[test]
+    fn charges_at_the_edges_of_a_deficit() {
+        let two = [(0, 0, 36), (0, 0, 100), (0, 0, 101)];
+        let of = |overhead| charged_run((100, 100), &two, overhead);
+        assert_eq!(
+            of(0),
+            "D 0 0 101 3\nS 0 0 36 64 1\nS 36 0 100 64 1\nE 136 2 1\n"
+        );
+        assert_eq!(
+            of(1),
+            "D 0 0 101 3\nS 0 0 36 63 1\nS 37 0 100 62 1\nE 138 2 1\n"
+        );
+        assert_eq!(
+            of(64),
+            "D 0 0 101 3\nS 0 0 36 0 1\nS 100 0 100 36 2\nE 264 2 1\n"
+        );
+        assert_eq!(of(65), "R 10 0\n");
+        let one = |quantum| charged_run((quantum, 9_216), &[(5, 0, 1)], 20);
+        assert_eq!(one(1), "S 5 0 1 0 21\nE 26 1 0\n");
+        assert_eq!(one(20), "S 5 0 1 19 2\nE 26 1 0\n");
+        assert_eq!(one(21), "S 5 0 1 0 1\nE 26 1 0\n");
+    }
+
+    /// 10 in its place: after 9, before 5 and all that follow.
+    #[test]
+    fn overheads_of_a_run_file() {
+        let refused = |change: &dyn Fn(&mut Vec<u8>)| {
+            let mut bytes = charged_file(&[(0, 0)], &[(1, 0, 1), (0, 0, 1)], 65);
+            change(&mut bytes);
+            texts(&bytes)[0].clone()
+        };
+        assert_eq!(refused(&|_| ()), "R 10 0\n");
+        assert_eq!(refused(&|bytes| bytes[0] = 0), "R 10 0\n");
+        assert_eq!(refused(&|bytes| bytes[3] = 5), "R 10 0\n");
+        assert_eq!(refused(&|bytes| bytes[4] = 21), "R 10 0\n");
+        assert_eq!(refused(&|bytes| bytes[12] = 0), "R 9 0\n");
+        assert_eq!(refused(&|bytes| bytes[16] = 64), "R 6 0\n");
+        assert_eq!(refused(&|bytes| bytes[17] = 1), "R 10 0\n");
+        assert_eq!(refused(&|bytes| bytes[16..20].fill(255)), "R 10 0\n");
+    }
+
     /// A refused event tells what waits when it is refused, and not what is booked behind it.
     #[test]
     fn bytes_waiting_at_a_refusal() {
@@ -903,6 +1006,45 @@ mod tests {
         let plain = Dress::default();
         assert_eq!(figures_text(&unsorted, &sizes, plain), expected);
         assert_eq!(figures_text(&unsorted[1..], &[1], plain), "R 9 0\n");
+    }
+
+    /// With 20 the request itself gives flow 0's C and wait. L is 2,200 + 3 x 20, so that flow 1 has
+    /// 300 x 1,440 + 900 x 1,120, and flow 2 400 x 1,640 + 800 x 1,020.
+    #[test]
+    fn figures_with_an_overhead() {
+        let s = charged(20);
+        let c = [0, 1, 2].map(|flow| lag(&s, flow));
+        assert_eq!(c, [1_644_000, 1_440_000, 1_472_000].map(Ok));
+        let waits = [0, 1, 2].map(|flow| wait(&s, flow));
+        assert_eq!(waits, [3_289, 4_801, 3_681].map(Ok));
+        let owed_at = [3_288, 3_289, 10_000].map(|bytes| owed(&s, 0, bytes));
+        // 5,000,000 - 1,644,000 are 3,356,000, and 2,796 x 1,200 is 3,355,200
+        assert_eq!(owed_at, [0, 1, 2_797].map(Ok));
+        let more = [1, 64].map(|overhead| lag(&charged(overhead), 0));
+        assert_eq!(more, [1_610_000 + 1_700, 1_610_000 + 64 * 1_700].map(Ok));
+    }
+
+    #[test]
+    fn printed_figures_with_an_overhead() {
+        let plain = "overhead 20\n0 500 800 1644000 3289 2797\n1 300 800 1440000 4801 1300\n\
+                     2 400 600 1472000 3681 2107\n";
+        let with = |overhead, dress| {
+            let file = charged_file(&TABLE, &[], overhead);
+            figures_text(&file, &[10_000], dress)
+        };
+        assert_eq!(with(20, Dress::default()), plain);
+        let mut dress = Dress {
+            header: true,
+            ..Dress::default()
+        };
+        let titled = "flow quantum maximum C wait owed_10000\n0 ";
+        let expected = plain.replacen("\n0 ", &format!("\n{titled}"), 1);
+        assert_eq!(with(20, dress), expected);
+        assert!(with(0, dress).starts_with(titled));
+        dress.csv = true;
+        assert_eq!(with(20, dress), expected.replace(' ', ","));
+        assert!(with(64, dress).starts_with("overhead,64\nflow,"));
+        assert_eq!(with(65, dress), "R 10 0\n");
     }
 
     #[test]
@@ -991,9 +1133,14 @@ mod tests {
         assert_eq!(pick(&mut empty()), Picked::Idle);
     }
 
+    fn refusal(flows: &[(u32, u32)], overhead: u32) -> Option<(u32, usize)> {
+        let answer = setup(flows, overhead);
+        answer.map_err(|r| (r.number, r.place)).err()
+    }
+
     #[test]
     fn refusals_of_a_setup_in_order() {
-        let place = |flows: &[(u32, u32)]| setup(flows).map_err(|r| (r.number, r.place)).err();
+        let place = |flows: &[(u32, u32)]| refusal(flows, 0);
         assert_eq!(place(&[]), Some((5, 0)));
         assert_eq!(place(&[(0, 0); 17]), Some((5, 0)));
         assert_eq!(place(&[(1, 1); 16]), None);
@@ -1001,6 +1148,22 @@ mod tests {
         assert_eq!(place(&[(1, 1), (0, 0)]), Some((6, 1)));
         assert_eq!(place(&[(65_536, 9_217)]), Some((6, 0)));
         assert_eq!(place(&[(65_535, 9_216), (65_535, 9_217)]), Some((7, 1)));
+    }
+
+    /// An overhead of 0 to 64 is taken; above that it is refused by 10, before 5 and at place 0.
+    #[test]
+    fn overheads_of_a_setup() {
+        for overhead in [0, 1, 20, 63, 64] {
+            assert_eq!(refusal(&TABLE, overhead), None);
+            assert_eq!(charged(overhead).overhead, overhead);
+            assert_eq!(refusal(&[], overhead), Some((5, 0)));
+            assert_eq!(refusal(&[(1, 1), (0, 0)], overhead), Some((6, 1)));
+        }
+        for overhead in [65, 66, 256, 1 << 16, u32::MAX] {
+            for flows in [&TABLE[..], &[], &[(1, 1); 17], &[(1, 1), (0, 0)]] {
+                assert_eq!(refusal(flows, overhead), Some((10, 0)));
+            }
+        }
     }
 
     /// A sound state with a waiting flow, an open one and an empty one.
@@ -1074,7 +1237,7 @@ mod tests {
     /// The most that can wait: 32 packets of 9,216 bytes, in every flow.
     #[test]
     fn the_largest_sum() {
-        let mut s = setup(&[(65_535, 9_216); 16]).unwrap();
+        let mut s = setup(&[(65_535, 9_216); 16], 64).unwrap();
         for call in 0..16 * 33 {
             let refusal = if call / 16 == 32 { 4 } else { 0 };
             assert_eq!(arrival(&mut s, call % 16, 9_216), refusal);
@@ -1100,28 +1263,61 @@ mod tests {
         s = empty();
         s.quanta[0] = 1;
         assert!(!sound(&s));
+        for overhead in [1, 20, 64, 65, u32::MAX] {
+            s = State {
+                overhead,
+                ..empty()
+            };
+            assert_eq!(arrival(&mut s, 0, 0), 8);
+            assert_eq!(pick(&mut s), Picked::Refused(8));
+            assert_eq!((owed(&s, 0, 1), waiting_bytes(&s, 0)), (Err(8), Err(8)));
+        }
+    }
+
+    /// The overhead's own range, and the deficit that it allows a closed, waiting flow.
+    #[test]
+    fn soundness_with_an_overhead() {
+        let with = |overhead: u32, deficit: u32| {
+            let mut s = busy();
+            (s.overhead, s.deficits[1]) = (overhead, deficit);
+            sound(&s)
+        };
+        assert_eq!([0, 1, 64].map(|overhead| with(overhead, 0)), [true; 3]);
+        let above = [65, 66, 256, u32::MAX].map(|overhead| with(overhead, 0));
+        assert_eq!(above, [false; 4]);
+        // the oldest of flow 1 has 500 bytes
+        for overhead in [0, 1, 20, 64] {
+            assert!(with(overhead, 499 + overhead) && !with(overhead, 500 + overhead));
+        }
+        let mut open = charged(20);
+        (open.opened, open.deficits[2]) = (true, 399);
+        assert!(sound(&open));
+        open.deficits[2] = 400;
+        assert!(!sound(&open));
     }
 
     /// A run leaves out the test for 8, because every state it can reach is sound. On the way there, of
-    /// each flow the bytes accepted are the bytes sent and the bytes waiting.
+    /// each flow the bytes accepted are the bytes sent and the bytes waiting, whatever a packet is charged.
     #[test]
     fn states_stay_sound() {
         let mut dice = 1_u32;
-        let mut s = setup(&[(1, 50), (70, 60), (20, 9_216)]).unwrap();
-        let (mut accepted, mut sent) = ([0; 3], [0; 3]);
-        for _ in 0..50_000 {
-            dice = dice.wrapping_mul(1_664_525).wrapping_add(1_013_904_223);
-            if dice >> 31 == 0 {
-                let (flow, length) = ((dice >> 24) as usize % 4, (dice >> 16) % 64);
-                if arrival(&mut s, flow, length) == 0 {
-                    accepted[flow] += u64::from(length);
+        for overhead in [0, 1, 20, 64] {
+            let mut s = setup(&[(1, 50), (70, 60), (20, 9_216)], overhead).unwrap();
+            let (mut accepted, mut sent) = ([0; 3], [0; 3]);
+            for _ in 0..20_000 {
+                dice = dice.wrapping_mul(1_664_525).wrapping_add(1_013_904_223);
+                if dice >> 31 == 0 {
+                    let (flow, length) = ((dice >> 24) as usize % 4, (dice >> 16) % 64);
+                    if arrival(&mut s, flow, length) == 0 {
+                        accepted[flow] += u64::from(length);
+                    }
+                } else if let Picked::Sent { flow, length, .. } = pick(&mut s) {
+                    sent[flow] += u64::from(length);
                 }
-            } else if let Picked::Sent { flow, length, .. } = pick(&mut s) {
-                sent[flow] += u64::from(length);
+                assert!(sound(&s));
+                let waiting = [0, 1, 2].map(|flow| accepted[flow] - sent[flow]);
+                assert_eq!(waiting.map(Ok), [0, 1, 2].map(|f| waiting_bytes(&s, f)));
             }
-            assert!(sound(&s));
-            let waiting = [0, 1, 2].map(|flow| accepted[flow] - sent[flow]);
-            assert_eq!(waiting.map(Ok), [0, 1, 2].map(|f| waiting_bytes(&s, f)));
         }
     }
 
@@ -1129,6 +1325,7 @@ mod tests {
     fn any_state_is_answered() {
         let mut s = busy();
         s.n = usize::MAX;
+        s.overhead = u32::MAX;
         s.place = usize::MAX;
         s.quanta = [u32::MAX; 16];
         s.maxima = [u32::MAX; 16];
@@ -1138,22 +1335,30 @@ mod tests {
         assert_eq!(pick(&mut s), Picked::Refused(8));
         assert_eq!(owed(&s, 0, u64::MAX), Err(8));
         assert_eq!(waiting_bytes(&s, usize::MAX), Err(8));
-        assert!(charge_c(&s, 0) > 0 && charge_c(&s, 16) == 0);
+        assert!(c_of(&s, 0) > 0 && c_of(&s, 16) == 0);
     }
 
     /// The figures against their closed forms, at the largest numbers too.
     #[test]
     fn figures_at_the_edges() {
-        let s = setup(&[(65_535, 9_216); 16]).unwrap();
-        let c = charge_c(&s, 3);
+        let s = setup(&[(65_535, 9_216); 16], 0).unwrap();
+        let c = c_of(&s, 3);
         assert_eq!(wait(&s, 3), Ok((c / 65_535) as u64 + 1));
         assert_eq!(
             owed(&s, 3, u64::MAX),
             Ok((u64::MAX - (c / 65_535) as u64).div_ceil(16))
         );
-        let slow = setup(&[(1, 1), (65_535, 9_216)]).unwrap();
+        let slow = setup(&[(1, 1), (65_535, 9_216)], 0).unwrap();
         assert_eq!(wait(&slow, 0), Ok(9_216 + 65_535 * 2 + 1));
         assert_eq!(owed(&slow, 0, u64::from(u32::MAX)), Ok(65_534));
+        // 1 x 9,280 and 65,535 x (1 + 65)
+        let slow = setup(&[(1, 1), (65_535, 9_216)], 64).unwrap();
+        assert_eq!(wait(&slow, 0), Ok(9_280 + 65_535 * 66 + 1));
+        // the longest wait of all
+        let mut flows = [(65_535, 9_216); 16];
+        flows[0].0 = 1;
+        let longest = setup(&flows, 64).unwrap();
+        assert_eq!(wait(&longest, 0), Ok(9_123_594_226));
     }
 
     #[test]

@@ -35,21 +35,16 @@ fn main() {
 fn compare(drrfigures: &str, to_first: bool) -> Result<bool> {
     let files = files::all();
     let mut dice = Dice(3501);
-    let (mut differ, mut tables, mut dressed) = (0, 0, 0);
+    let (mut differ, mut tables, mut dressed, mut charged) = (0, 0, 0, 0);
     for file in &files {
         let (sizes, dress) = (sizes(&mut dice), dress(&mut dice));
         let words = words(&sizes, dress, &mut dice);
         let output = process::run(drrfigures, &words, &file.bytes)?;
-        // without an argument 1,000,000 is asked for
-        let asked = if sizes.is_empty() {
-            vec![1_000_000]
-        } else {
-            sizes
-        };
-        let own = drr::figures_text(&file.bytes, &asked, dress);
+        let own = drr::figures_text(&file.bytes, &asked(sizes), dress);
         let table = !own.starts_with('R');
         tables += usize::from(table);
         dressed += usize::from(table && (dress.header || dress.csv || dress.rate.is_some()));
+        charged += usize::from(own.starts_with("overhead"));
         if !output.status.success() || output.stdout != own.as_bytes() {
             differ += 1;
             let given = String::from_utf8_lossy(&output.stdout);
@@ -65,11 +60,20 @@ fn compare(drrfigures: &str, to_first: bool) -> Result<bool> {
     }
     let silent = wrong_words_answered(drrfigures)?;
     println!(
-        "{tables} of the files have a table without a fault, {dressed} of these figures are dressed"
+        "{tables} of the files have a table without a fault, {charged} of these have an overhead, the \
+         figures of {dressed} are dressed"
     );
     println!("{silent} wrong arguments went unseen");
     println!("{} files' figures compared, {differ} differ", files.len());
-    Ok(differ == 0 && silent == 0 && dressed > 0)
+    Ok(differ == 0 && silent == 0 && dressed > 0 && charged > 0)
+}
+
+/// The numbers of bytes that are asked for: without an argument it is 1,000,000.
+fn asked(sizes: Vec<u32>) -> Vec<u32> {
+    match sizes.is_empty() {
+        true => vec![1_000_000],
+        false => sizes,
+    }
 }
 
 /// No option for half of the files, and any of the eight sets of them for the others.
@@ -117,11 +121,24 @@ fn sizes(dice: &mut Dice) -> Vec<u32> {
     (0..count).map(|_| size()).collect()
 }
 
+/// The overhead is the file's: only the script, which can be given a table without a file, takes one.
+const WRONG_OPTIONS: [&[&str]; 9] = [
+    &["--head"],
+    &["--rate"],
+    &["--rate", "0"],
+    &["--rate", "1000000000001"],
+    &["--rate", "10M"],
+    &["--rate", "--csv"],
+    &["--rate=10"],
+    &["--overhead"],
+    &["--overhead", "20"],
+];
+
 /// How many wrong arguments got an answer, or no message.
 fn wrong_words_answered(drrfigures: &str) -> Result<usize> {
     let many = vec!["1"; 17];
     let long = "0".repeat(33);
-    let wrong: [&[&str]; 22] = [
+    let wrong: [&[&str]; 15] = [
         &["x"],
         &[""],
         &["-1"],
@@ -133,20 +150,13 @@ fn wrong_words_answered(drrfigures: &str) -> Result<usize> {
         &["1M"],
         &["1.5"],
         &["500:800"],
-        &["--head"],
-        &["--rate"],
-        &["--rate", "0"],
-        &["--rate", "1000000000001"],
-        &["--rate", "10M"],
-        &["--rate", "--csv"],
-        &["--rate=10"],
         &["4294967296"],
         &["1", "99999999999999999999"],
         &[&long],
         &many,
     ];
     let mut silent = 0;
-    for words in wrong {
+    for words in wrong.into_iter().chain(WRONG_OPTIONS) {
         let words: Vec<String> = words.iter().map(|word| word.to_string()).collect();
         let output = process::run(drrfigures, &words, &files::worked())?;
         let message = String::from_utf8_lossy(&output.stderr).starts_with("drrfigures: ");

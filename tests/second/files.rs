@@ -22,6 +22,8 @@ pub fn all() -> Vec<File> {
     let mut dice = Dice(2012);
     let mut files = vec![file("valid-worked".to_string(), worked(), None)];
     valid_files(&mut dice, &mut files);
+    tiny_files(&mut dice, &mut files);
+    overhead_files(&mut files);
     limit_files(&mut dice, &mut files);
     neighbour_files(&mut dice, &mut files);
     damaged_files(&mut dice, &mut files);
@@ -40,6 +42,11 @@ fn file(name: String, bytes: Vec<u8>, meant: Option<(u32, usize)>) -> File {
 
 /// The worked example of the requirement.
 pub fn worked() -> Vec<u8> {
+    charged_worked(0)
+}
+
+/// The same with an overhead.
+pub fn charged_worked(overhead: u32) -> Vec<u8> {
     let flows = [(500, 800), (300, 800), (400, 600)];
     let events = [
         (0, 0, 200),
@@ -49,12 +56,13 @@ pub fn worked() -> Vec<u8> {
         (100, 2, 700),
         (900, 1, 250),
     ];
-    plain(&flows, &events)
+    plain(&flows, &events, overhead)
 }
 
 /// A run file without gaps, the flow table first.
-pub fn plain(flows: &[Flow], events: &[Event]) -> Vec<u8> {
-    Draft::of(flows.to_vec(), events.to_vec()).bytes(&mut Dice(0))
+pub fn plain(flows: &[Flow], events: &[Event], overhead: u32) -> Vec<u8> {
+    let draft = Draft::of(flows.to_vec(), events.to_vec());
+    Draft { overhead, ..draft }.bytes(&mut Dice(0))
 }
 
 /// A run file before it is written. Header fields stand beside what they speak of, so that a fault
@@ -68,11 +76,11 @@ struct Draft {
     event_at: u32,
     size: usize,
     stated: u32,
-    reserved: u32,
+    overhead: u32,
 }
 
 impl Draft {
-    /// Flow table at 20, event table behind it, no gaps.
+    /// Flow table at 20, event table behind it, no gaps, no overhead.
     fn of(flows: Vec<Flow>, events: Vec<Event>) -> Draft {
         let event_at = 20 + 8 * flows.len() as u32;
         let size = event_at as usize + 8 * events.len();
@@ -82,7 +90,7 @@ impl Draft {
             event_at,
             size,
             stated: size as u32,
-            reserved: 0,
+            overhead: 0,
             flows,
             events,
         }
@@ -118,7 +126,7 @@ impl Draft {
         for (k, count) in counts.iter().enumerate() {
             put(&mut bytes, 2 * k, &count.to_le_bytes());
         }
-        let fields = [self.flow_at, self.event_at, self.stated, self.reserved];
+        let fields = [self.flow_at, self.event_at, self.stated, self.overhead];
         for (k, field) in fields.iter().enumerate() {
             put(&mut bytes, 4 + 4 * k, &field.to_le_bytes());
         }
@@ -147,8 +155,57 @@ fn valid_files(dice: &mut Dice, files: &mut Vec<File>) {
         let mut events = event_table(dice, &flows, count);
         refuse_some(dice, &mut events);
         let mut draft = Draft::of(flows, events);
+        draft.overhead = overhead(dice);
         lay_out(dice, &mut draft);
         files.push(file(format!("valid-{k}"), draft.bytes(dice), None));
+    }
+}
+
+/// An overhead in its range, half of the time 0.
+fn overhead(dice: &mut Dice) -> u32 {
+    let any = dice.between(0, 64);
+    dice.one_of(&[0, 0, 0, 0, 1, 20, 64, any])
+}
+
+/// Flows of tiny frames beside flows of large ones, where the overhead weighs most.
+fn tiny_files(dice: &mut Dice, files: &mut Vec<File>) {
+    for k in 0..120 {
+        let overhead = [0, 1, 20, 63, 64, dice.between(0, 64)][k % 6];
+        let n = dice.one_of(&[2, 2, 3, 4, 8, 16]);
+        let flows: Vec<Flow> = (0..n).map(|f| tiny_or_large(dice, f, overhead)).collect();
+        let count = dice.one_of(&[20, 100, 400]);
+        let events = event_table(dice, &flows, count);
+        let mut draft = Draft::of(flows, events);
+        draft.overhead = overhead;
+        files.push(file(format!("valid-tiny-{k}"), draft.bytes(dice), None));
+    }
+}
+
+/// Every second flow has large frames. The quantum of a tiny one is about its length or its charge, or such
+/// as buys many of them.
+fn tiny_or_large(dice: &mut Dice, flow: u32, overhead: u32) -> Flow {
+    if flow % 2 == 1 {
+        let large = dice.one_of(&[1_500, 1_518, 9_216]);
+        return (dice.one_of(&[64, 500, large, large + overhead]), large);
+    }
+    let tiny = dice.one_of(&[1, 2, 8, 46, 64]);
+    let charge = tiny + overhead;
+    let quantum = dice.one_of(&[tiny, charge - 1, charge, charge + 1, 2 * charge, 500]);
+    (quantum.max(1), tiny)
+}
+
+/// The worked example with every overhead that a table may have, and with some that none may: next to the
+/// range, and such as are inside when cut to 8, 16 or 24 bits.
+fn overhead_files(files: &mut Vec<File>) {
+    for overhead in 0..=64 {
+        let name = format!("valid-overhead-{overhead}");
+        files.push(file(name, charged_worked(overhead), None));
+    }
+    let wide = [8, 16, 24].map(|bits| [1 << bits, (1 << bits) + 20, (1 << bits) + 64]);
+    let near = [65, 66, 67, 84, 127, 128, 255, 1 << 31, u32::MAX];
+    for overhead in near.into_iter().chain(wide.into_iter().flatten()) {
+        let name = format!("overhead-{overhead}");
+        files.push(file(name, charged_worked(overhead), Some((10, 0))));
     }
 }
 
@@ -285,6 +342,7 @@ fn limit_files(dice: &mut Dice, files: &mut Vec<File>) {
         let flows = flow_table(dice, false);
         let events = event_table(dice, &flows, 512 * (k % 3));
         let mut draft = Draft::of(flows, events);
+        draft.overhead = [0, 20, 64][k as usize / 2];
         draft.resize(12_288);
         files.push(file(format!("valid-limit-{k}"), draft.bytes(dice), None));
         draft.resize(12_289);
@@ -326,10 +384,12 @@ fn small() -> Draft {
     Draft::of(flows, events.collect())
 }
 
-/// The same with room for 17 flows and 1,025 events, so that too many of them can really be there.
+/// The same with an overhead, and with room for 17 flows and 1,025 events, so that too many of them can
+/// really be there.
 fn roomy(events_first: bool) -> Draft {
     let mut draft = small();
     (draft.flow_at, draft.event_at) = if events_first { (8_232, 24) } else { (24, 168) };
+    draft.overhead = if events_first { 64 } else { 20 };
     draft.resize(8_380);
     draft
 }
@@ -430,12 +490,16 @@ fn range_pair_files(dice: &mut Dice, files: &mut Vec<File>) {
     }
 }
 
-/// A file at all its limits, 16 flows and 1,024 events in 8,340 bytes: as it is, with 6 and 7 at
-/// every flow, and with 13 at the first event that can have it, in the middle and at the last.
+/// A file at all its limits, 16 flows and 1,024 events in 8,340 bytes: as it is, with each overhead, with
+/// 6 and 7 at every flow, and with 13 at the first event that can have it, in the middle and at the last.
 fn wide_files(dice: &mut Dice, files: &mut Vec<File>) {
     let events = (1..=1_024).map(|k| (10 * k, (k % 16) as u16, 20));
-    let draft = Draft::of(vec![(65_535, 9_216); 16], events.collect());
-    files.push(file("valid-wide".to_string(), draft.bytes(dice), None));
+    let mut draft = Draft::of(vec![(65_535, 9_216); 16], events.collect());
+    for overhead in [0, 1, 20, 64] {
+        draft.overhead = overhead;
+        let name = format!("valid-wide-{overhead}");
+        files.push(file(name, draft.bytes(dice), None));
+    }
     let mut faults = Vec::new();
     for flow in 0..16 {
         faults.extend([0, 65_536, u32::MAX].map(|value| quantum_fault(flow, value)));
@@ -458,9 +522,9 @@ fn header_faults() -> Vec<Fault> {
         fault(9, "size", "stated-less", |d| d.stated -= 1),
         fault(9, "size", "stated-0", |d| d.stated = 0),
     ];
-    for value in [1, 64, 1 << 24, u32::MAX] {
+    for value in [65, 66, 1 << 8, (1 << 24) + 20, u32::MAX] {
         let name = value.to_string();
-        faults.push(fault(10, "reserved", &name, move |d| d.reserved = value));
+        faults.push(fault(10, "overhead", &name, move |d| d.overhead = value));
     }
     for count in [0, 17, 18, 256, 65_535] {
         faults.push(fault(5, "flows", &count.to_string(), move |d| {
@@ -593,13 +657,14 @@ fn short_files(files: &mut Vec<File>) {
     }
 }
 
-/// The worked example with one byte changed, at every position.
+/// The worked example with one byte changed, at every position; with an overhead of 20, in the header.
 fn changed_files(files: &mut Vec<File>) {
-    for at in 0..92 {
-        for change in [0x01, 0x04, 0x80, 0xFF] {
-            let mut bytes = worked();
+    for (overhead, end) in [(0, 92), (20, 20)] {
+        for (at, change) in (0..end).flat_map(|at| [0x01, 0x04, 0x80, 0xFF].map(|by| (at, by))) {
+            let mut bytes = charged_worked(overhead);
             bytes[at] ^= change;
-            files.push(file(format!("changed-{at}-{change}"), bytes, None));
+            let name = format!("changed-{overhead}-{at}-{change}");
+            files.push(file(name, bytes, None));
         }
     }
 }
@@ -611,7 +676,8 @@ fn random_files(dice: &mut Dice, files: &mut Vec<File>) {
         let mut bytes: Vec<u8> = (0..size).map(|_| dice.next() as u8).collect();
         if k % 4 != 0 {
             put(&mut bytes, 12, &(size as u32).to_le_bytes());
-            put(&mut bytes, 16, &[0; 4]);
+            let overhead = dice.one_of(&[0, 0, 0, 1, 20, 64, 65, 1 << 16]);
+            put(&mut bytes, 16, &u32::to_le_bytes(overhead));
         }
         if k % 4 > 1 {
             put(&mut bytes, 0, &[dice.between(0, 18) as u8, 0]);

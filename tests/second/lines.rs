@@ -50,6 +50,10 @@ fn line(first: &str, numbers: &[u32]) -> Line {
     std::iter::once(first.to_string()).chain(numbers).collect()
 }
 
+fn overhead_line(overhead: u32) -> Line {
+    line("overhead", &[overhead])
+}
+
 fn flow_line((quantum, maximum): Flow) -> Line {
     line("flow", &[quantum, maximum])
 }
@@ -58,10 +62,12 @@ fn event_line((tick, flow, length): Event) -> Line {
     line("event", &[tick, flow.into(), length.into()])
 }
 
-fn lines_of(flows: &[Flow], events: &[Event]) -> Vec<Line> {
+/// An overhead may be left out.
+fn lines_of(overhead: Option<u32>, flows: &[Flow], events: &[Event]) -> Vec<Line> {
+    let overhead = overhead.map(overhead_line).into_iter();
     let flows = flows.iter().map(|&flow| flow_line(flow));
     let events = events.iter().map(|&event| event_line(event));
-    flows.chain(events).collect()
+    overhead.chain(flows).chain(events).collect()
 }
 
 /// A manner of writing lines; each number is how often something is done, once in so many times, 0 for never.
@@ -114,19 +120,21 @@ const MANNERS: [Manner; 7] = [
 ];
 
 const BLANKS: [&str; 8] = [" ", "  ", "\t", "\r", " \t ", "\t\t", "\r\r ", "      \t"];
-const COMMENTS: [&str; 6] = [
+const COMMENTS: [&str; 7] = [
     "#",
     "# flow 1 1",
+    "# overhead 1",
     "## event 0 0 0 #",
     "#x",
     "#\0\u{b}é",
     "# event\r0",
 ];
-const SKIPPED: [&str; 6] = [
+const SKIPPED: [&str; 7] = [
     "",
     " ",
     "\t",
     "\r",
+    "# overhead 21",
     "# flow 500 800",
     " \t # event 0 0 200 \r",
 ];
@@ -178,6 +186,13 @@ fn write_line(dice: &mut Dice, manner: Manner, words: &[String]) -> String {
     line
 }
 
+/// Left out in half of the texts; where it is not, it may be 0.
+fn any_overhead(dice: &mut Dice) -> Option<u32> {
+    let any = dice.between(0, 64);
+    let overhead = dice.one_of(&[0, 1, 9, 10, 20, 64, any]);
+    dice.once_in(2).then_some(overhead)
+}
+
 fn flow_table(dice: &mut Dice, count: u32) -> Vec<Flow> {
     let mut flow = || {
         let any = (dice.between(1, 65_535), dice.between(1, 9_216));
@@ -201,9 +216,11 @@ fn event_table(dice: &mut Dice, count: u32) -> Vec<Event> {
     (0..count).map(|_| event()).collect()
 }
 
+/// A text of these, with an overhead or without; one that is left out is 0.
 fn good(dice: &mut Dice, name: String, manner: Manner, flows: &[Flow], events: &[Event]) -> Text {
-    let (bytes, _) = write(dice, manner, &lines_of(flows, events));
-    let meant = Some(Made(files::plain(flows, events)));
+    let overhead = any_overhead(dice);
+    let (bytes, _) = write(dice, manner, &lines_of(overhead, flows, events));
+    let meant = Some(Made(files::plain(flows, events, overhead.unwrap_or(0))));
     Text { name, bytes, meant }
 }
 
@@ -239,7 +256,10 @@ fn limit_texts(dice: &mut Dice, texts: &mut Vec<Text>) {
             (1, 1_025, 1_025, EVENTS),
             (16, 1_025, 1_040, EVENTS),
         ] {
-            let (bytes, numbers) = write(dice, manner, &lines_of(&flows[..f], &events[..e]));
+            let overhead = any_overhead(dice);
+            let lines = lines_of(overhead, &flows[..f], &events[..e]);
+            let (bytes, numbers) = write(dice, manner, &lines);
+            let last = last + usize::from(overhead.is_some());
             let meant = Some(Told(numbers[last], expected));
             let name = format!("limit-{f}-{e}-{k}");
             texts.push(Text { name, bytes, meant });
@@ -281,8 +301,10 @@ fn fault(
     }
 }
 
-/// The fields of a flow and of an event: least, most, and what is expected.
-const FIELDS: [&[(u64, u64, &str)]; 2] = [
+/// The words that a line may begin with, and for each its fields: least, most, and what is expected.
+const FIRST: [&str; 3] = ["overhead", "flow", "event"];
+const FIELDS: [&[(u64, u64, &str)]; 3] = [
+    &[(0, 64, "an overhead, 0 to 64")],
     &[
         (1, 65_535, "a quantum, 1 to 65535"),
         (1, 9_216, "a maximum, 1 to 9216"),
@@ -297,13 +319,22 @@ const FIELDS: [&[(u64, u64, &str)]; 2] = [
 /// The rank of what stands behind the fields.
 const BEHIND: usize = 9;
 
-/// Every fault that a line can have by itself: of a flow (kind 0) or of an event (kind 1).
+const OTHER_WORD: &str = "overhead, flow or event";
+const OTHER_WORDS: &str = "Flow flows flo EVENT even event: 0 - flow,1 e \0flow é \u{b}flow \
+    Overhead OVERHEAD overheads overhea over overhead: overhead20";
+
+/// The kind of a line, by its first word.
+fn kind(line: &Line) -> usize {
+    let kind = FIRST.iter().position(|first| *first == line[0]);
+    kind.expect("a line that begins well")
+}
+
+/// Every fault that a line of this kind can have by itself.
 fn faults(kind: usize) -> Vec<Fault> {
     let mut faults = Vec::new();
-    let words = "Flow flows flo EVENT even event: 0 - flow,1 e \0flow é \u{b}flow";
-    for word in words.split(' ') {
+    for word in OTHER_WORDS.split(' ') {
         let put = move |line: &mut Line| line[0] = word.to_string();
-        faults.push(fault(format!("word-{word:?}"), 0, "flow or event", put));
+        faults.push(fault(format!("word-{word:?}"), 0, OTHER_WORD, put));
     }
     for (place, &(least, most, expected)) in FIELDS[kind].iter().enumerate() {
         let field = 1 + place;
@@ -324,11 +355,15 @@ fn faults(kind: usize) -> Vec<Fault> {
     faults
 }
 
-/// What is no number, and numbers out of range: next to it, and such as are inside when cut to 16, 32 or 64 bits.
+/// What is no number, and numbers out of range: next to it, and such as are inside when cut to 8, 16, 32 or 64
+/// bits.
 fn wrong_numbers(least: u64, most: u64) -> Vec<String> {
     let inside = u128::from(least.max(1));
     let above = u128::from(most) + 1;
     let mut numbers = vec![above, (1 << 32) + inside, 1 << 64, (1 << 64) + inside];
+    if most <= 255 {
+        numbers.push(256 + inside);
+    }
     if most <= 65_535 {
         numbers.extend([u128::from(most) * 10, 65_536 + inside, 99_999, 1 << 32]);
     }
@@ -342,8 +377,8 @@ fn wrong_numbers(least: u64, most: u64) -> Vec<String> {
     words
 }
 
-/// Three flows and five events.
-fn base() -> Vec<Line> {
+/// Three flows and five events; with an overhead it stands first.
+fn base(overhead: Option<u32>) -> Vec<Line> {
     let flows = [(500, 800), (300, 800), (400, 600)];
     let events = [
         (0, 0, 200),
@@ -352,12 +387,7 @@ fn base() -> Vec<Line> {
         (900, 1, 250),
         (901, 7, 0),
     ];
-    lines_of(&flows, &events)
-}
-
-/// The kind of the base's line: 0 for a flow, 1 for an event.
-fn kind(line: usize) -> usize {
-    usize::from(line >= 3)
+    lines_of(overhead, &flows, &events)
 }
 
 fn told(dice: &mut Dice, name: String, lines: &[Line], at: usize, expected: &'static str) -> Text {
@@ -367,14 +397,16 @@ fn told(dice: &mut Dice, name: String, lines: &[Line], at: usize, expected: &'st
     Text { name, bytes, meant }
 }
 
-/// Each fault alone, in each line.
+/// Each fault alone, in each line, with an overhead before it and without.
 fn fault_texts(dice: &mut Dice, texts: &mut Vec<Text>) {
-    for at in 0..base().len() {
-        for fault in faults(kind(at)) {
-            let mut lines = base();
-            (fault.put)(&mut lines[at]);
-            let name = format!("fault-{at}-{}", fault.name);
-            texts.push(told(dice, name, &lines, at, fault.expected));
+    for base in [base(None), base(Some(20))] {
+        for (at, line) in base.iter().enumerate() {
+            for fault in faults(kind(line)) {
+                let mut lines = base.clone();
+                (fault.put)(&mut lines[at]);
+                let name = format!("fault-{}-{at}-{}", base.len(), fault.name);
+                texts.push(told(dice, name, &lines, at, fault.expected));
+            }
         }
     }
 }
@@ -382,15 +414,16 @@ fn fault_texts(dice: &mut Dice, texts: &mut Vec<Text>) {
 /// Two faults: in one line, where the one further to the left is told, and in two, where the first line's is.
 /// The one that is told is put in last, so that the other cannot cover it.
 fn pair_texts(dice: &mut Dice, texts: &mut Vec<Text>) {
-    let kinds = [faults(0), faults(1)];
-    for k in 0..900 {
-        let lines = base().len() as u32 - 1;
-        let mut places = [(); 2].map(|_| dice.between(0, lines) as usize);
+    let kinds = [faults(0), faults(1), faults(2)];
+    let base = base(Some(20));
+    for k in 0..1_000 {
+        let last = base.len() as u32 - 1;
+        let mut places = [(); 2].map(|_| dice.between(0, last) as usize);
         if k % 3 == 0 {
             places[1] = places[0];
         }
         let mut pair = places.map(|at| {
-            let faults = &kinds[kind(at)];
+            let faults = &kinds[kind(&base[at])];
             let any = dice.between(0, faults.len() as u32 - 1);
             (at, &faults[any as usize])
         });
@@ -399,7 +432,7 @@ fn pair_texts(dice: &mut Dice, texts: &mut Vec<Text>) {
         if (at, first.rank) == (other_at, other.rank) {
             continue;
         }
-        let mut lines = base();
+        let mut lines = base.clone();
         (other.put)(&mut lines[other_at]);
         (first.put)(&mut lines[at]);
         let name = format!("pair-{k}-{at}-{}-{other_at}-{}", first.name, other.name);
@@ -412,8 +445,7 @@ fn pair_texts(dice: &mut Dice, texts: &mut Vec<Text>) {
 fn order_texts(dice: &mut Dice, texts: &mut Vec<Text>) {
     for (name, lines, at, expected) in misplaced() {
         texts.push(told(dice, format!("order-{name}"), &lines, at, expected));
-        let own = usize::from(lines[at][0] == "event");
-        for fault in faults(own) {
+        for fault in faults(kind(&lines[at])) {
             let mut with = lines.clone();
             (fault.put)(&mut with[at]);
             // of a line too many, some; of the others all
@@ -430,7 +462,7 @@ fn order_texts(dice: &mut Dice, texts: &mut Vec<Text>) {
             if at >= shift {
                 with = lines.clone();
                 with[at - shift].truncate(1);
-                let words = FIELDS[usize::from(with[at - shift][0] == "event")][0].2;
+                let words = FIELDS[kind(&with[at - shift])][0].2;
                 let name = format!("order-{name}-after-{shift}");
                 texts.push(told(dice, name, &with, at - shift, words));
             }
@@ -439,6 +471,8 @@ fn order_texts(dice: &mut Dice, texts: &mut Vec<Text>) {
 }
 
 // what is told of a record that may not stand where it does
+const OVERHEAD_BEHIND: &str = "the overhead before the flows";
+const OVERHEADS: &str = "at most one overhead";
 const FLOW_FIRST: &str = "a flow before any event";
 const NO_FLOW_BEHIND: &str = "an event: flows come first";
 const FLOWS: &str = "at most 16 flows";
@@ -452,11 +486,11 @@ fn misplaced() -> Vec<Misplaced> {
     let mut list = Vec::new();
     let mut add = |name: String, lines, at, expected| list.push((name, lines, at, expected));
     for event in 3..8 {
-        let mut lines = base();
+        let mut lines = base(None);
         let moved = lines.remove(event);
         lines.insert(0, moved);
         add(format!("event-{event}-first"), lines, 0, FLOW_FIRST);
-        let mut lines = base();
+        let mut lines = base(None);
         lines.insert(event + 1, flow_line((1, 1)));
         add(
             format!("flow-after-{event}"),
@@ -466,15 +500,42 @@ fn misplaced() -> Vec<Misplaced> {
         );
     }
     for (event, tick) in [(5, 0), (6, 99), (6, 0), (7, 899), (7, 99)] {
-        let mut lines = base();
+        let mut lines = base(None);
         lines[event - 1][1] = "900".to_string();
         lines[event][1] = tick.to_string();
         add(format!("tick-{event}-{tick}"), lines, event, TICK_FALLS);
     }
     let last = [u32::MAX, u32::MAX - 1].map(|tick| event_line((tick, 0, 1)));
-    let lines = [base(), last.to_vec()].concat();
+    let lines = [base(None), last.to_vec()].concat();
     add("tick-last".to_string(), lines, 9, TICK_FALLS);
     list.extend(too_many());
+    list.extend(misplaced_overheads());
+    list
+}
+
+/// Overheads behind flows and events, alone and as a second one, which is told by its place then; a second one
+/// before any flow, the first and the second 0 or not; an event behind an overhead alone.
+fn misplaced_overheads() -> Vec<Misplaced> {
+    let mut list = Vec::new();
+    for first in [None, Some(0), Some(20)] {
+        for behind in [1, 3, 4, 8] {
+            let mut lines = base(first);
+            let at = behind + usize::from(first.is_some());
+            lines.insert(at, overhead_line(if behind % 2 == 0 { 0 } else { 64 }));
+            let name = format!("overhead-{first:?}-at-{at}");
+            list.push((name, lines, at, OVERHEAD_BEHIND));
+        }
+    }
+    for (first, second) in [(0, 0), (0, 20), (20, 0), (20, 20), (64, 1)] {
+        let lines = [
+            vec![overhead_line(first), overhead_line(second)],
+            base(None),
+        ]
+        .concat();
+        list.push((format!("overheads-{first}-{second}"), lines, 1, OVERHEADS));
+    }
+    let event = [overhead_line(20), event_line((0, 0, 1))].to_vec();
+    list.push(("overhead-event".to_string(), event, 1, FLOW_FIRST));
     list
 }
 
@@ -508,6 +569,9 @@ fn no_flow_texts(texts: &mut Vec<Text>) {
         ("# flow 1 1\n\n# event 0 0 0", 3),
         ("\r\n\r\n", 3),
         ("\r", 1),
+        ("overhead 20", 1),
+        ("overhead 0\n", 2),
+        ("#\noverhead 64\n\n# flow 1 1\n ", 5),
     ] {
         let meant = Some(Told(last, FLOW_FIRST));
         let bytes = text.as_bytes().to_vec();
@@ -532,9 +596,9 @@ fn size_texts(texts: &mut Vec<Text>) {
                     let ended = text[..most].matches('\n').count();
                     Told(1 + ended, "the text to end by byte 131072")
                 } else if first.is_empty() {
-                    Made(files::plain(&[(500, 800)], &[(1, 0, 200)]))
+                    Made(files::plain(&[(500, 800)], &[(1, 0, 200)], 0))
                 } else {
-                    Told(1, "flow or event")
+                    Told(1, OTHER_WORD)
                 };
                 let name = format!("size-{k}-{size}-{}", first.len());
                 let bytes = text.into_bytes();
@@ -551,36 +615,41 @@ fn size_texts(texts: &mut Vec<Text>) {
 // ---- senseless texts ----
 
 /// The bytes that the text form has a use for.
-const USEFUL: &[u8] = b"flowevent0123456789 \t\r\n#";
+const USEFUL: &[u8] = b"overheadflowevent0123456789 \t\r\n#";
+
+const NUMBERS: [&str; 11] = [
+    "0",
+    "1",
+    "7",
+    "0064",
+    "0500",
+    "9216",
+    "9217",
+    "65535",
+    "65536",
+    "4294967295",
+    "4294967296",
+];
+const SIGNS: [&str; 12] = [
+    " ", "\n", "#", "\t", "\r", "-", "x", "overhead", "flow", "event", "\n\n", "",
+];
 
 /// Words and signs of the text form in any order: lines that begin well, and often end so.
 fn word_texts(dice: &mut Dice, texts: &mut Vec<Text>) {
-    let numbers = [
-        "0",
-        "1",
-        "7",
-        "0500",
-        "9216",
-        "9217",
-        "65535",
-        "65536",
-        "4294967295",
-        "4294967296",
-    ];
-    let signs = [
-        " ", "\n", "#", "\t", "\r", "-", "x", "flow", "event", "\n\n", "",
-    ];
-    for k in 0..900 {
-        let mut text = "flow 500 800\n".repeat(usize::from(k % 3 > 0));
+    for k in 0..1_000 {
+        let mut text = "overhead 20\n".repeat(usize::from(k % 4 == 0));
+        text += &"flow 500 800\n".repeat(usize::from(k % 3 > 0));
         for _ in 0..dice.between(1, 8) {
-            let first = dice.one_of(&["flow", "event", "event"]);
-            text += first;
-            for _ in 0..if first == "flow" { 2 } else { 3 } {
+            // an overhead seldom: behind a flow it ends all
+            let record = dice.one_of(&[1, 2, 2]);
+            let kind = if dice.once_in(12) { 0 } else { record };
+            text += FIRST[kind];
+            for _ in FIELDS[kind] {
                 text += " ";
-                text += dice.one_of(&numbers[..if k % 2 == 0 { 5 } else { 10 }]);
+                text += dice.one_of(&NUMBERS[..if k % 2 == 0 { 6 } else { 11 }]);
             }
             if dice.once_in(6) {
-                text += dice.one_of(&signs);
+                text += dice.one_of(&SIGNS);
             }
             text += "\n";
         }
@@ -613,7 +682,12 @@ fn random_texts(dice: &mut Dice, texts: &mut Vec<Text>) {
 fn changed_texts(dice: &mut Dice, texts: &mut Vec<Text>) {
     for k in 0..1_500 {
         let (flows, events) = (dice.between(1, 4), dice.between(0, 6));
-        let lines = lines_of(&flow_table(dice, flows), &event_table(dice, events));
+        let overhead = any_overhead(dice);
+        let lines = lines_of(
+            overhead,
+            &flow_table(dice, flows),
+            &event_table(dice, events),
+        );
         let (mut bytes, _) = write(dice, MANNERS[k % MANNERS.len()], &lines);
         for _ in 0..dice.one_of(&[1, 1, 2, 3]) {
             let at = dice.between(0, bytes.len() as u32 - 1) as usize;

@@ -8,6 +8,7 @@ impl From<&drr::State> for State {
     fn from(s: &drr::State) -> State {
         let table = Table {
             n: s.n,
+            overhead: s.overhead,
             quanta: s.quanta,
             maxima: s.maxima,
         };

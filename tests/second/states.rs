@@ -23,6 +23,19 @@ pub fn flows(dice: &mut Dice) -> Vec<(u32, u32)> {
         .collect()
 }
 
+/// An overhead that setup accepts.
+pub fn overhead(dice: &mut Dice) -> u32 {
+    let any = dice.between(0, 64);
+    dice.one_of(&[0, 0, 1, 20, 63, 64, any])
+}
+
+/// An overhead as setup may be given it: one in four is out of range, also in its upper bits alone.
+pub fn any_overhead(dice: &mut Dice) -> u32 {
+    let good = overhead(dice);
+    let above = dice.one_of(&[65, 66, 128, 256 + good, (1 << 16) + good, 1 << 31, u32::MAX]);
+    dice.one_of(&[good, good, good, above])
+}
+
 /// A list of flow records as setup may be given it: of any length to 17, often with a fault or two.
 pub fn records(dice: &mut Dice) -> Vec<(u32, u32)> {
     let count = dice.between(0, 17) as usize;
@@ -44,6 +57,7 @@ pub fn sound_state(dice: &mut Dice) -> State {
     if dice.once_in(50) {
         return s;
     }
+    s.overhead = overhead(dice);
     for (f, (quantum, maximum)) in flows(dice).into_iter().enumerate() {
         s.n = f + 1;
         s.quanta[f] = quantum;
@@ -59,13 +73,18 @@ pub fn sound_state(dice: &mut Dice) -> State {
     s.place = dice.between(0, s.n as u32 - 1) as usize;
     s.opened = dice.once_in(2);
     for f in 0..s.n {
+        let oldest = u32::from(s.rows[f][0]);
         let most = match (s.opened && f == s.place, s.counts[f]) {
             (true, _) => s.quanta[f] - 1,
             (false, 0) => 0,
-            (false, _) => u32::from(s.rows[f][0]) - 1,
+            (false, _) => oldest + s.overhead - 1,
         };
-        let some = dice.between(0, most);
-        s.deficits[f] = dice.one_of(&[0, some, most]);
+        // where the oldest packet would fit by its length alone, the edge of that too
+        let edges = [oldest.saturating_sub(1), oldest, dice.between(0, most), 0];
+        s.deficits[f] = dice.one_of(&edges.map(|edge| edge.min(most)));
+        if dice.once_in(3) {
+            s.deficits[f] = most;
+        }
     }
     s
 }
@@ -85,7 +104,7 @@ fn true_sums(s: &mut State) {
 /// to a state gives false.
 pub type Break = (&'static str, fn(&mut State, &mut Dice) -> bool);
 
-pub const BREAKS: [Break; 20] = [
+pub const BREAKS: [Break; 22] = [
     ("n above 16", |s, dice| {
         s.n = dice.one_of(&[17, 18, 255, 1 << 32, usize::MAX]);
         true
@@ -102,6 +121,15 @@ pub const BREAKS: [Break; 20] = [
     ("a place with no flow", |s, dice| {
         *s = empty();
         s.place = dice.one_of(&[1, 15, 16, usize::MAX]);
+        true
+    }),
+    ("an overhead above its range", |s, dice| {
+        s.overhead = dice.one_of(&[65, 66, 256 + s.overhead, 1 << 16, 1 << 31, u32::MAX]);
+        s.n > 0
+    }),
+    ("an overhead with no flow", |s, dice| {
+        *s = empty();
+        s.overhead = dice.one_of(&[1, 20, 63, 64]);
         true
     }),
     ("quantum out of range", |s, dice| {
@@ -183,8 +211,8 @@ pub const BREAKS: [Break; 20] = [
     }),
     ("credit for the oldest packet without a visit", |s, dice| {
         let f = a_flow(s, dice);
-        let oldest = u32::from(s.rows[f][0]);
-        s.deficits[f] = dice.one_of(&[oldest, oldest + 1, u32::MAX]);
+        let charge = u32::from(s.rows[f][0]) + s.overhead;
+        s.deficits[f] = dice.one_of(&[charge, charge + 1, u32::MAX]);
         s.counts[f] > 0 && !(s.opened && f == s.place)
     }),
     ("a whole quantum left in an open visit", |s, dice| {
@@ -228,6 +256,7 @@ pub fn any_state(dice: &mut Dice) -> State {
     let bits = dice.between(1, 32);
     let mut number = || (dice.next() >> (64 - bits)) as u32;
     s.n = number() as usize;
+    s.overhead = number();
     s.place = number() as usize;
     s.opened = number() % 2 == 1;
     for f in 0..16 {

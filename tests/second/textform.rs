@@ -22,6 +22,8 @@ pub struct Fault {
 /// is out of range.
 type Field = (u32, u32, &'static str);
 
+const OVERHEAD_FIELDS: [Field; 1] = [(0, 64, "an overhead, 0 to 64")];
+
 const FLOW_FIELDS: [Field; 2] = [
     (1, 65_535, "a quantum, 1 to 65535"),
     (1, 9_216, "a maximum, 1 to 9216"),
@@ -36,6 +38,7 @@ const EVENT_FIELDS: [Field; 3] = [
 /// A line that has words says one of these.
 #[derive(Clone, Copy)]
 enum Record {
+    Overhead(u32),
     Flow(u32, u32),
     Event(drr::Event),
 }
@@ -53,7 +56,8 @@ pub fn make(text: &[u8]) -> Result<Vec<u8>, Fault> {
         let line = number + 1;
         records.push(record.map_err(|expected| Fault { line, expected })?);
     }
-    if records.is_empty() {
+    let [_, flows, _] = counts(&records);
+    if flows == 0 {
         let line = text.split(newline).count();
         let expected = "a flow before any event";
         return Err(Fault { line, expected });
@@ -87,6 +91,10 @@ fn words(line: &[u8]) -> Vec<&[u8]> {
 /// What the words of a line say, whatever stands in the lines before it.
 fn record(words: &[&[u8]]) -> Result<Record, &'static str> {
     match words[0] {
+        b"overhead" => {
+            let [overhead] = numbers(&words[1..], OVERHEAD_FIELDS)?;
+            Ok(Record::Overhead(overhead))
+        }
         b"flow" => {
             let numbers = numbers(&words[1..], FLOW_FIELDS)?;
             Ok(Record::Flow(numbers[0], numbers[1]))
@@ -99,7 +107,7 @@ fn record(words: &[&[u8]]) -> Result<Record, &'static str> {
                 length: numbers[2] as u16,
             }))
         }
-        _ => Err("flow or event"),
+        _ => Err("overhead, flow or event"),
     }
 }
 
@@ -126,12 +134,26 @@ fn number(word: &[u8]) -> Option<u32> {
     word.parse().ok().filter(|_| digits)
 }
 
+/// How many overheads, flows and events there are among records.
+fn counts(records: &[Record]) -> [usize; 3] {
+    let mut counts = [0; 3];
+    for record in records {
+        let kind = match record {
+            Record::Overhead(_) => 0,
+            Record::Flow(..) => 1,
+            Record::Event(_) => 2,
+        };
+        counts[kind] += 1;
+    }
+    counts
+}
+
 /// The record, if it may stand behind those before it.
 fn placed(before: &[Record], record: Record) -> Result<Record, &'static str> {
-    let events = before.iter().filter(|one| matches!(one, Record::Event(_)));
-    let events = events.count();
-    let flows = before.len() - events;
+    let [overheads, flows, events] = counts(before);
     match (record, before.last()) {
+        (Record::Overhead(_), _) if flows > 0 => Err("the overhead before the flows"),
+        (Record::Overhead(_), _) if overheads > 0 => Err("at most one overhead"),
         (Record::Flow(..), _) if events > 0 => Err("an event: flows come first"),
         (Record::Flow(..), _) if flows >= FLOWS => Err("at most 16 flows"),
         (Record::Event(_), _) if flows == 0 => Err("a flow before any event"),
@@ -143,26 +165,28 @@ fn placed(before: &[Record], record: Record) -> Result<Record, &'static str> {
     }
 }
 
-/// The run file without gaps: header, flow table, event table. Among the records the flows come first already.
+/// The run file without gaps: header, flow table, event table. Among the records the flows come first already,
+/// behind the overhead.
 fn bytes(records: &[Record]) -> Vec<u8> {
-    let flows = records.iter().filter(|one| matches!(one, Record::Flow(..)));
-    let flows = flows.count();
-    let counts = [flows as u16, (records.len() - flows) as u16];
-    let mut file = counts.map(u16::to_le_bytes).concat();
-    let [event_table, size] = [flows, records.len()].map(|count| 20 + 8 * count as u32);
-    file.extend([20, event_table, size, 0].map(u32::to_le_bytes).concat());
+    let mut overhead = 0;
+    let mut tables = Vec::new();
     for record in records {
         match record {
+            Record::Overhead(said) => overhead = *said,
             Record::Flow(quantum, maximum) => {
-                file.extend([quantum.to_le_bytes(), maximum.to_le_bytes()].concat());
+                tables.extend([quantum.to_le_bytes(), maximum.to_le_bytes()].concat());
             }
             Record::Event(event) => {
-                file.extend(event.tick.to_le_bytes());
-                file.extend([event.flow.to_le_bytes(), event.length.to_le_bytes()].concat());
+                tables.extend(event.tick.to_le_bytes());
+                tables.extend([event.flow.to_le_bytes(), event.length.to_le_bytes()].concat());
             }
         }
     }
-    file
+    let [_, flows, events] = counts(records);
+    let numbers = [flows as u16, events as u16].map(u16::to_le_bytes);
+    let [event_table, size] = [flows, flows + events].map(|count| 20 + 8 * count as u32);
+    let fields = [20, event_table, size, overhead].map(u32::to_le_bytes);
+    [numbers.concat(), fields.concat(), tables].concat()
 }
 
 /// What `drrmake` writes to standard output and to standard error.
@@ -175,12 +199,14 @@ pub fn made(text: &[u8]) -> (Vec<u8>, String) {
     }
 }
 
-/// What `drrshow` prints for a file: a line for each flow and each event, or the file's refusal.
+/// What `drrshow` prints for a file: a line for the overhead where it is not 0, for each flow and each event,
+/// or the file's refusal.
 pub fn show(file: &[u8]) -> String {
     let run = match drr::read(file) {
         Ok(run) => run,
         Err(refused) => return drr::text(&Err(refused)),
     };
+    let overhead = (run.overhead != 0).then(|| format!("overhead {}\n", run.overhead));
     let flows = run
         .flows
         .iter()
@@ -189,7 +215,7 @@ pub fn show(file: &[u8]) -> String {
         .events
         .iter()
         .map(|event| format!("event {} {} {}\n", event.tick, event.flow, event.length));
-    flows.chain(events).collect()
+    overhead.into_iter().chain(flows).chain(events).collect()
 }
 
 #[cfg(test)]
@@ -280,7 +306,11 @@ mod tests {
         // nothing else parts words
         for other in ["\u{b}", "\u{c}", "\0", "\u{a0}", "\u{85}", "\u{2028}", ","] {
             told(format!("flow 500 800{other}"), 1, "a maximum, 1 to 9216");
-            told(format!("{other}\nflow 500 800"), 1, "flow or event");
+            told(
+                format!("{other}\nflow 500 800"),
+                1,
+                "overhead, flow or event",
+            );
         }
     }
 
@@ -381,11 +411,103 @@ mod tests {
     #[test]
     fn another_word_first() {
         for word in [
-            "Flow", "flows", "flo", "EVENT", "event:", "500", "flow500", "\"flow\"",
+            "Flow",
+            "flows",
+            "flo",
+            "EVENT",
+            "event:",
+            "500",
+            "flow500",
+            "\"flow\"",
+            "Overhead",
+            "OVERHEAD",
+            "overheads",
+            "overhea",
+            "overhead:",
+            "overhead20",
         ] {
-            told(format!("{word} 500 800"), 1, "flow or event");
+            told(format!("{word} 500 800"), 1, "overhead, flow or event");
         }
-        told([0xFF, 0xFE, b'\n'], 1, "flow or event");
+        told([0xFF, 0xFE, b'\n'], 1, "overhead, flow or event");
+    }
+
+    #[test]
+    fn an_overhead_made_and_shown() {
+        let (left_out, mut file) = (worked(), worked());
+        for overhead in 0..=64 {
+            file[16] = overhead;
+            let text = format!("overhead {overhead}\n{WORKED}");
+            assert_eq!(make(text.as_bytes()), Ok(file.clone()));
+            // of an overhead of 0 nothing is shown
+            let shown = if overhead == 0 { WORKED } else { &text };
+            assert_eq!(show(&file), shown);
+        }
+        assert_eq!(make(WORKED.as_bytes()), Ok(left_out));
+        file[16] = 65;
+        assert_eq!(show(&file), "R 10 0\n");
+        let same = says("overhead 20\nflow 500 800\n");
+        assert_eq!(same.overhead, 20);
+        assert_eq!(says("#\n\t overhead\r0020 # 21\n\nflow 500 800"), same);
+    }
+
+    #[test]
+    fn an_overhead_missing_or_out_of_range() {
+        let expected = "an overhead, 0 to 64";
+        for rest in ["", " ", " # 20", "# 20"] {
+            told(format!("overhead{rest}\nflow 500 800"), 1, expected);
+        }
+        for word in [
+            "65",
+            "66",
+            "256",
+            "276",
+            "4294967296",
+            "x",
+            "-1",
+            "+1",
+            "20,",
+            "2_0",
+        ] {
+            told(format!("overhead {word}\nflow 500 800"), 1, expected);
+            told(format!("flow 500 800\noverhead {word} 1"), 2, expected);
+        }
+        told("overhead 20 1\nflow 500 800", 1, "the end of the line");
+        told("overhead 20 flow 500 800", 1, "the end of the line");
+    }
+
+    #[test]
+    fn one_overhead_before_the_flows() {
+        let behind = "the overhead before the flows";
+        told("flow 500 800\noverhead 20", 2, behind);
+        told("flow 1 1\nevent 0 0 1\noverhead 0", 3, behind);
+        told(many(16, 1_024) + "overhead 20", 1_041, behind);
+        // a second one that is also behind a flow is told by its place
+        told("overhead 20\nflow 500 800\noverhead 20", 3, behind);
+        for text in [
+            "overhead 20\noverhead 20",
+            "overhead 0\n\noverhead 0 # 1\nflow 1 1",
+        ] {
+            let line = text.lines().count().min(3);
+            told(text, line, "at most one overhead");
+        }
+        told("overhead 20\noverhead 20 1", 2, "the end of the line");
+        told("overhead 20\noverhead 65", 2, "an overhead, 0 to 64");
+    }
+
+    /// An overhead is no flow, and counts as none.
+    #[test]
+    fn an_overhead_beside_the_other_rules() {
+        told("overhead 20", 1, "a flow before any event");
+        told("overhead 20\n", 2, "a flow before any event");
+        told("overhead 20\nevent 0 0 200", 2, "a flow before any event");
+        let most = "overhead 64\n".to_string() + &many(16, 1_024);
+        assert_eq!(make(most.as_bytes()).unwrap().len(), 8_340);
+        told(
+            "overhead 0\n".to_string() + &many(17, 0),
+            18,
+            "at most 16 flows",
+        );
+        told(most + "event 7 0 1", 1_042, "at most 1024 events");
     }
 
     #[test]
@@ -458,7 +580,7 @@ mod tests {
 
     #[test]
     fn faults_of_a_line_from_left_to_right() {
-        told("fluw x y z", 1, "flow or event");
+        told("fluw x y z", 1, "overhead, flow or event");
         told("flow x y z", 1, "a quantum, 1 to 65535");
         told("flow 500 y z", 1, "a maximum, 1 to 9216");
         told("event 0 x y z", 1, "a flow, 0 to 65535");

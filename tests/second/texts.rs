@@ -86,7 +86,7 @@ fn compare_files(drrmake: &str, drrshow: &str, files: &[File], tally: &mut Tally
             .iter()
             .map(|event| (event.tick, event.flow, event.length))
             .collect();
-        let plain = files::plain(&run.flows, &events);
+        let plain = files::plain(&run.flows, &events, run.overhead);
         again += usize::from(plain == file.bytes);
         let output = process::run(drrmake, &[], &output.stdout)?;
         if !output.status.success() || output.stdout != plain || !output.stderr.is_empty() {
@@ -100,14 +100,17 @@ fn compare_files(drrmake: &str, drrshow: &str, files: &[File], tally: &mut Tally
 }
 
 /// What is told of faults, in the order of docs/FILES.md.
-const TOLD: [&str; 13] = [
-    "flow or event",
+const TOLD: [&str; 16] = [
+    "overhead, flow or event",
+    "an overhead, 0 to 64",
     "a quantum, 1 to 65535",
     "a maximum, 1 to 9216",
     "a tick, 0 to 4294967295",
     "a flow, 0 to 65535",
     "a length, 0 to 65535",
     "the end of the line",
+    "the overhead before the flows",
+    "at most one overhead",
     "a flow before any event",
     "an event: flows come first",
     "at most 16 flows",
