@@ -1,5 +1,5 @@
 -- Document 01 as definitions, in its order. Facts.antt has soundness once more, as facts. Paper.antt has
--- document 000's listing, Account.antt the account of request E1, Before.antt the pick and the figures without E2's overhead.
+-- document 000's listing, Account.antt the account of request E1, Before.antt what E2's overhead moved, without it.
 pub mod Limits
 pub mod State
 pub mod Sound
