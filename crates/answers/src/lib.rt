@@ -1,5 +1,7 @@
 // What the programs print: a file's bytes to the text of its answer, in a lent buffer. A program over
 // these reads and writes, and nothing else.
+#![tactic(auto)]
+
 ghost use Rattle.std.specs.Prelude.{◌≡◌, ◌≤◌, ◌<◌, length};
 ghost use Rattle.io.specs.Counts.{IsPrefixLen};
 ghost use Rattle.drr.specs.Facts.{SoundState};
@@ -86,7 +88,7 @@ pub fn run_waiting_text(file: &[u8], buf: &mut [u8]) -> usize
 
 // How the figures are dressed: the byte that parts the fields, whether titles come first, and the line's
 // rate in bits a second, for the wait in seconds; 0 where no time is asked.
-#[derive(Drop)]
+#[derive(Clone, Copy)]
 pub struct Dress {
     pub parting: u8,
     pub titled: bool,

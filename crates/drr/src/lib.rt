@@ -1,5 +1,7 @@
 // The data of document 01's scheduler. Its definitions stand in specs/, and what holds of them in
 // proofs/; the crates above compute with them.
+#![tactic(auto)]
+
 ghost use Rattle.std.specs.Prelude.{◌≡◌};
 ghost use Rattle.drr.specs.Answers.{number_of};
 ghost use Rattle.drr.specs.State.{common_in};
@@ -23,7 +25,7 @@ pub const MOST_EVENTS: usize = 1024;
 
 // A flow as setup is given it.
 #[repr(C)]
-#[derive(Drop)]
+#[derive(Clone, Copy)]
 pub struct FlowRecord {
     pub quantum: u32,
     pub maximum: u32,
@@ -32,7 +34,7 @@ pub struct FlowRecord {
 // A list of flow records as it is carried: the first `count` of seventeen, one more than a table may
 // have, so that a list too long is seen to be.
 #[repr(C)]
-#[derive(Drop)]
+#[derive(Clone, Copy)]
 pub struct FlowList {
     pub records: [FlowRecord; 17],
     pub count: usize,
@@ -40,13 +42,13 @@ pub struct FlowList {
 
 // What setup is told beside the list: the bytes that the line spends on each packet beside its own.
 #[repr(C)]
-#[derive(Drop)]
+#[derive(Clone, Copy)]
 pub struct Terms {
     pub overhead: u32,
 }
 
 // The numbers of a table that are no flow's own, as the inner functions take them.
-#[derive(Drop)]
+#[derive(Clone, Copy)]
 pub struct Common {
     pub n: usize,
     pub overhead: u32,
@@ -54,7 +56,7 @@ pub struct Common {
 
 // What setup fixes: the number of flows, the overhead per packet, and each flow's quantum and maximum.
 #[repr(C)]
-#[derive(Drop)]
+#[derive(Clone, Copy)]
 pub struct Table {
     pub n: usize,
     pub overhead: u32,
@@ -64,14 +66,14 @@ pub struct Table {
 
 // The waiting lengths of one flow, oldest first.
 #[repr(C)]
-#[derive(Drop)]
+#[derive(Clone, Copy)]
 pub struct Row {
     pub lengths: [u16; 32],
 }
 
 // What arrivals and picks move. In a sound line a flow's sum is that of its waiting lengths.
 #[repr(C)]
-#[derive(Drop)]
+#[derive(Clone, Copy)]
 pub struct Line {
     pub deficits: [u32; 16],
     pub counts: [u8; 16],
@@ -83,28 +85,28 @@ pub struct Line {
 
 // All that a call is given and hands back: the table, and what moves.
 #[repr(C)]
-#[derive(Drop)]
+#[derive(Clone, Copy)]
 pub struct State {
     pub table: Table,
     pub line: Line,
 }
 
 // The place, and whether its visit is open.
-#[derive(Drop)]
+#[derive(Clone, Copy)]
 pub struct Spot {
     pub place: usize,
     pub opened: bool,
 }
 
 // The flow that a search finds.
-#[derive(Drop)]
+#[derive(Clone, Copy)]
 pub enum Found {
     At(usize),
     Nothing,
 }
 
 // Why something is refused; `refusal_number` gives document 01's number.
-#[derive(Drop)]
+#[derive(Clone, Copy)]
 pub enum Refusal {
     UnknownFlow,
     NoLength,
@@ -123,7 +125,7 @@ pub enum Refusal {
 }
 
 // Sent: flow, length, deficit after it, visits opened in this pick.
-#[derive(Drop)]
+#[derive(Clone, Copy)]
 pub enum PickAnswer {
     Idle,
     Sent(usize, u32, u32, u32),
@@ -131,51 +133,51 @@ pub enum PickAnswer {
 }
 
 // What an arrival is told.
-#[derive(Drop)]
+#[derive(Clone, Copy)]
 pub enum ArrivalAnswer {
     Accepted,
     Refused(Refusal),
 }
 
 // What is judged record by record: why it is refused, and the number of the record at fault.
-#[derive(Drop)]
+#[derive(Clone, Copy)]
 pub enum Verdict {
     Fine,
     Refused(Refusal, usize),
 }
 
 // Each answer beside the table, the state or the line after the call.
-#[derive(Drop)]
+#[derive(Clone, Copy)]
 pub struct Tabled {
     pub answer: Verdict,
     pub table: Table,
 }
 
-#[derive(Drop)]
+#[derive(Clone, Copy)]
 pub struct Made {
     pub answer: Verdict,
     pub state: State,
 }
 
-#[derive(Drop)]
+#[derive(Clone, Copy)]
 pub struct Picked {
     pub answer: PickAnswer,
     pub state: State,
 }
 
-#[derive(Drop)]
+#[derive(Clone, Copy)]
 pub struct Arrived {
     pub answer: ArrivalAnswer,
     pub state: State,
 }
 
-#[derive(Drop)]
+#[derive(Clone, Copy)]
 pub struct PickedLine {
     pub answer: PickAnswer,
     pub line: Line,
 }
 
-#[derive(Drop)]
+#[derive(Clone, Copy)]
 pub struct ArrivedLine {
     pub answer: ArrivalAnswer,
     pub line: Line,

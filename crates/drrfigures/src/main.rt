@@ -6,6 +6,8 @@
 // Options stand among the numbers, in any order: --header for a line of titles before the flows', --csv
 // for commas in place of the spaces, --rate BITS for the wait in seconds, as the last field, on a line of
 // so many bits a second. With a wrong argument it says what is wrong, and prints nothing.
+#![tactic(auto)]
+
 ghost use Rattle.std.specs.Prelude.{◌+◌, ◌≤◌, ◌≡◌};
 ghost use Rattle.io.specs.Counts.{IsPrefixLen};
 
@@ -18,7 +20,7 @@ const MOST_BYTES: u64 = 4294967295;
 const MOST_RATE: u64 = 1000000000000;
 
 // What an argument says.
-#[derive(Drop)]
+#[derive(Clone, Copy)]
 enum Said {
     Header,
     Csv,
@@ -29,7 +31,7 @@ enum Said {
 }
 
 // What the arguments have said so far: how many numbers of bytes, the dress, and whether a rate is due.
-#[derive(Drop)]
+#[derive(Clone, Copy)]
 struct Heard {
     count: usize,
     dress: Dress,
@@ -38,7 +40,7 @@ struct Heard {
 
 // What is asked for: the first `count` of these numbers of bytes, in this dress; none where an argument
 // is wrong.
-#[derive(Drop)]
+#[derive(Clone, Copy)]
 struct Asked {
     sizes: [u32; 17],
     count: usize,

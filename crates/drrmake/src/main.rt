@@ -1,6 +1,8 @@
 // Reads the text form of a run file from standard input, and writes the run file to standard output
 // (textform::make::make_file); of a text with a fault it writes the fault's line to standard error, and
 // nothing else (textform::told::fault_text).
+#![tactic(auto)]
+
 ghost use Rattle.std.specs.Prelude.{◌≡◌, length};
 
 use textform::Making;

@@ -2,10 +2,12 @@
 // refusal (answers::run_text). With the argument --waiting each line of the listing but the last has one
 // field more, the bytes waiting in its flow (answers::run_waiting_text). With any other it says what is
 // wrong, and prints nothing.
+#![tactic(auto)]
+
 ghost use Rattle.io.specs.Counts.{IsPrefixLen};
 
 // What the arguments ask for.
-#[derive(Drop)]
+#[derive(Clone, Copy)]
 enum Asked {
     Listing,
     Waiting,

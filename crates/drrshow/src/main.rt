@@ -1,5 +1,7 @@
 // Reads a run file from standard input, and prints it as text: its overhead, if that is not 0, its flows and
 // events, a line each, or the line of its refusal (textform::show::show_text).
+#![tactic(auto)]
+
 fn main() {
     // one byte more than a run file may have, so that a file too long is seen to be
     let mut file = [0u8; 12289];

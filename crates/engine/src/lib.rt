@@ -4,6 +4,8 @@
 // The arrays are those of a table (quanta, maxima, and its other numbers in `common`) and of a line (counts,
 // sums, deficits, rows, and the place with its visit in `spot`). The contracts speak of them as `table_of ..` and
 // `line_of ..`.
+#![tactic(auto)]
+
 ghost use Rattle.std.specs.Prelude.{◌≡◌, true, false, ◌+◌, ◌-◌, ◌≤◌, ◌<◌};
 ghost use Rattle.drr.specs.Limits.{most_flows, most_overhead};
 ghost use Rattle.drr.specs.State.{table_of, line_of, spot_at, charge, shifted_of};
@@ -18,7 +20,7 @@ ghost use Rattle.engine.specs.Needs.{bare, Bookable, Sendable};
 use drr::{ArrivalAnswer, Common, Found, PickAnswer, Refusal, Spot};
 
 // What a pick answers, and where it leaves the visit.
-#[derive(Drop)]
+#[derive(Clone, Copy)]
 pub struct Picking {
     pub answer: PickAnswer,
     pub spot: Spot,

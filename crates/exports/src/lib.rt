@@ -1,6 +1,8 @@
 // What programs in other languages can call, by C's calling convention: a state crosses by value, laid
 // out as C lays it out, an answer as a struct with a name for each number (specs/Told.antt), a lent slice
 // as its address and its length. Any numbers may stand in a state, and its bool is 0 or 1.
+#![tactic(auto)]
+
 ghost use Rattle.std.specs.Prelude.{◌≡◌, [], length};
 ghost use Rattle.drr.specs.Sound.{sound_state};
 ghost use Rattle.drr.specs.Answers.{answer, verdict_paper, pick_paper, arrival_paper, reply};
@@ -20,7 +22,7 @@ use figures::Figure;
 
 // Setup: the flow at fault for 6 and 7, and the fresh state, or the empty table beside a refusal.
 #[repr(C)]
-#[derive(Drop)]
+#[derive(Clone, Copy)]
 pub struct SetupResult {
     pub refusal: u32,
     pub place: usize,
@@ -29,7 +31,7 @@ pub struct SetupResult {
 
 // An arrival: the state after it.
 #[repr(C)]
-#[derive(Drop)]
+#[derive(Clone, Copy)]
 pub struct ArrivalResult {
     pub refusal: u32,
     pub state: State,
@@ -38,7 +40,7 @@ pub struct ArrivalResult {
 // A pick: whether a packet was sent, its flow and length, the flow's deficit after it, the visits opened in
 // this pick, and the state after it. Idle is an answer that is neither refused nor sent.
 #[repr(C)]
-#[derive(Drop)]
+#[derive(Clone, Copy)]
 pub struct PickResult {
     pub refusal: u32,
     pub sent: bool,
@@ -51,7 +53,7 @@ pub struct PickResult {
 
 // A figure of a flow.
 #[repr(C)]
-#[derive(Drop)]
+#[derive(Clone, Copy)]
 pub struct FigureResult {
     pub refusal: u32,
     pub value: u64,
@@ -59,7 +61,7 @@ pub struct FigureResult {
 
 // A run: the number of the record at fault, as in the line `R number place`.
 #[repr(C)]
-#[derive(Drop)]
+#[derive(Clone, Copy)]
 pub struct RunResult {
     pub refusal: u32,
     pub place: usize,

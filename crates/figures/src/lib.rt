@@ -5,6 +5,8 @@
 // takes the way round by division, and the laws of drr, proofs/Figures.antt, say that it is the same.
 // A figure takes any state and any numbers: `asked` stands before it and refuses, and behind it the
 // table is within setup's limits, so that no number comes near 64 bits.
+#![tactic(auto)]
+
 ghost use Rattle.std.specs.Prelude.{◌≡◌, ◌++◌, ◌+◌, ◌*◌, ◌-◌, ◌/◌, ◌≤◌, ◌<◌, length, get_or, drop};
 ghost use Rattle.drr.specs.Answers.{Answer};
 ghost use Rattle.drr.specs.Limits.{most_flows};
@@ -20,21 +22,21 @@ use drr::{Refusal, State, Table};
 // A second, in hundred-millionths of one.
 const SECOND: u64 = 100000000;
 
-#[derive(Drop)]
+#[derive(Clone, Copy)]
 pub enum Figure {
     Value(u64),
     Refused(Refusal),
 }
 
 // Whether a figure of a flow of a state may be asked.
-#[derive(Drop)]
+#[derive(Clone, Copy)]
 enum Guard {
     Passed,
     Refused(Refusal),
 }
 
 // What the figures are made of: the flow's quantum and maximum charge, and the sums of all of them.
-#[derive(Drop)]
+#[derive(Clone, Copy)]
 struct Measures {
     quantum: u64,
     charge: u64,

@@ -1,4 +1,6 @@
 // The run file: its reader, the run of its events on one line, and the listing of that run.
+#![tactic(auto)]
+
 pub mod fields;
 pub mod reader;
 mod turns;

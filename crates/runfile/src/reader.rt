@@ -17,28 +17,28 @@ const HEADER_SIZE: usize = 20;
 const MOST_BYTES: usize = 12288;
 
 // A table of the file: how many records it has, and its offset.
-#[derive(Drop)]
+#[derive(Clone, Copy)]
 pub struct Part {
     pub count: usize,
     pub at: usize,
 }
 
 // Where the two tables are.
-#[derive(Drop)]
+#[derive(Clone, Copy)]
 pub struct Layout {
     pub flows: Part,
     pub events: Part,
 }
 
 // What the header says, beside its refusal.
-#[derive(Drop)]
+#[derive(Clone, Copy)]
 struct Headed {
     answer: Verdict,
     layout: Layout,
 }
 
 // What the file holds, beside its refusal.
-#[derive(Drop)]
+#[derive(Clone, Copy)]
 pub struct Contents {
     pub answer: Verdict,
     pub table: Table,

@@ -13,7 +13,7 @@ use super::fields::{le2, le4};
 use drr::{ArrivalAnswer, PickAnswer, Spot, Table};
 
 // Packets sent, events refused, and the tick of line 3, so far.
-#[derive(Drop)]
+#[derive(Clone, Copy)]
 pub struct Tally {
     pub sent: usize,
     pub refused: usize,
@@ -21,7 +21,7 @@ pub struct Tally {
 }
 
 // An event of the file.
-#[derive(Drop)]
+#[derive(Clone, Copy)]
 pub struct Event {
     pub tick: usize,
     pub flow: usize,

@@ -141,7 +141,7 @@ pub fn setup_of(list: FlowList, terms: Terms) -> Made
 }
 
 // What is copied so far, how many are to be copied, and the terms.
-#[derive(Drop)]
+#[derive(Clone, Copy)]
 struct Copied {
     records: [FlowRecord; 17],
     at: usize,

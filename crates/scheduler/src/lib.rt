@@ -2,6 +2,8 @@
 //
 // The functions here take and give back a State by value, and take any numbers at all. Beneath them
 // stands `engine`, which does each step once, over lent arrays; a run stands on it too.
+#![tactic(auto)]
+
 pub mod flows;
 
 ghost use Rattle.std.specs.Prelude.{◌≡◌};

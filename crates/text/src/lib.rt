@@ -1,4 +1,6 @@
 // A listing, a refusal and rows of numbers as text, into a lent buffer of bytes; a number read from a word.
+#![tactic(auto)]
+
 ghost use Rattle.std.specs.Prelude.{◌≡◌, ◌∷◌, ◌+◌, ◌-◌, ◌≤◌, length};
 ghost use Rattle.std.proofs.lemmas.List.Edits.{sets};
 ghost use Rattle.io.specs.Digits.{last_digits};
@@ -76,7 +78,7 @@ fn put_fields(fields: &[u64], buf: &mut [u8], start: usize) -> usize
 }
 
 // How a line is printed: a letter and the first so many of its fields, or not at all.
-#[derive(Drop)]
+#[derive(Clone, Copy)]
 enum Form {
     Line(u8, usize),
     NoLine,
@@ -362,7 +364,7 @@ pub fn around_text(front: &[u8], n: u64, back: &[u8], buf: &mut [u8]) -> usize
 pub const MOST_NUMBER: u64 = 999999999999999999;
 
 // What a word says: a number, or none.
-#[derive(Drop)]
+#[derive(Clone, Copy)]
 pub enum Word {
     Number(u64),
     NoNumber,

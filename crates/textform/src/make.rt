@@ -12,7 +12,7 @@ use super::{Item, Made, Making, Want};
 use text::Word;
 
 // The overhead so far and how often it was said, the records, and the tick of the last event.
-#[derive(Drop)]
+#[derive(Clone, Copy)]
 pub struct Progress {
     overhead: u32,
     overheads: usize,
@@ -22,7 +22,7 @@ pub struct Progress {
 }
 
 // The sorts of bytes that a scan goes over: of a line, before its comment, between words, of a word.
-#[derive(Drop)]
+#[derive(Clone, Copy)]
 pub enum Sort {
     Inline,
     Uncommented,
@@ -31,14 +31,14 @@ pub enum Sort {
 }
 
 // The next word of a line: where it begins, and where it ends.
-#[derive(Drop)]
+#[derive(Clone, Copy)]
 pub struct Token {
     from: usize,
     to: usize,
 }
 
 // The number that the next word says, and where the word ends.
-#[derive(Drop)]
+#[derive(Clone, Copy)]
 pub struct Read {
     said: Word,
     to: usize,
@@ -256,7 +256,7 @@ fn event_at(file: &mut [u8], at: usize, tick: u32, flow: u16, size: u16)
 }
 
 // The records so far with one more, or what was expected.
-#[derive(Drop)]
+#[derive(Clone, Copy)]
 pub enum Put {
     Goes(Progress),
     Stops(Want),

@@ -8,7 +8,7 @@ ghost use Rattle.textform.specs.Words.{fault_within};
 use super::Want;
 
 // Where the words of a fault stand among all of them (specs/Needs.antt).
-#[derive(Drop)]
+#[derive(Clone, Copy)]
 pub struct Span {
     from: usize,
     to: usize,

@@ -1,5 +1,7 @@
 // A number in a wider type. Each cast stands here once, as a function, since a cast in the midst of an
 // expression asks for a fact of its own there.
+#![tactic(auto)]
+
 ghost use Rattle.std.specs.Prelude.{◌≡◌, ◌≤◌};
 
 pub fn usize_of_u8(byte: u8) -> usize

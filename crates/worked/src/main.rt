@@ -4,6 +4,8 @@
 // refused one, `S flow length deficit visits` for a packet sent, `I` for idle, and after each pick
 // `= deficit deficit deficit`, those of the three flows; `R refusal place` for a refused setup. The ticks
 // of the run are left out: the calls stand in its order.
+#![tactic(auto)]
+
 use drr::{ArrivalAnswer, FlowList, FlowRecord, PickAnswer, State, Terms, Verdict};
 
 fn field(x: u64) {
