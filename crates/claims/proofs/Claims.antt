@@ -105,7 +105,7 @@ pub overhead_first : (xs : List FlowRecord) (terms : Terms) → 64 < terms.overh
 overhead_first = setup_over
 
 pub overhead_in_range : (s : State) → SoundState s → (s.table.overhead ≤ 64) × (s.table.n ≡ 0 → s.table.overhead ≡ 0)
-overhead_in_range s ok = let r = sound_ranged ok in (r.overhead_in_lem, r.no_overhead)
+overhead_in_range s ok = let r = sound_ranged ok in (r.overhead_in_range, r.no_overhead)
 
 -- a refused run leaves the lent list as it came, and one with two lists leaves both
 pub run_leaves : (b out : List ℕ) → ((run_answer b (length out)).refusal ≡ 0 → ⊥) → filled b out ≡ out

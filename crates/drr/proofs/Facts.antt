@@ -178,7 +178,7 @@ module _ (T : Table) (l : Line) where
         shape = shape;
         flows_few = leb-true T.n most_flows
             (and_left (leb T.n most_flows) (leb T.overhead most_overhead) (and_left rangesb placeb h));
-        overhead_in_lem = leb-true T.overhead most_overhead
+        overhead_in_range = leb-true T.overhead most_overhead
             (and_right (leb T.n most_flows) (leb T.overhead most_overhead) (and_left rangesb placeb h));
         placed =
             ⊎_elim
@@ -200,7 +200,7 @@ module _ (T : Table) (l : Line) where
   of_sound u =
       and_both
       (and_both
-      (and_both (le-leb T.n most_flows u.flows_few) (le-leb T.overhead most_overhead u.overhead_in_lem))
+      (and_both (le-leb T.n most_flows u.flows_few) (le-leb T.overhead most_overhead u.overhead_in_range))
       (⊎_elim
       (λ p. or_inl (ltb l.place T.n) (zerob && not l.opened) (lt-ltb l.place T.n p))
       (λ p. or_inr (ltb l.place T.n) (zerob && not l.opened)

@@ -170,7 +170,7 @@ module _ (T : Table) (l : Line) (ok : Sound T l) (p : ℕ) (in_table : p < T.n) 
         shape = changed_shape l.deficits ok.shape.deficits_length (waiting_of l p + 1) (sum_of l p + len) row
             (length-set (row_of l p) (waiting_of l p) len ∙ long) l.place l.opened;
         flows_few = ok.flows_few;
-        overhead_in_lem = ok.overhead_in_lem;
+        overhead_in_range = ok.overhead_in_range;
         placed = ok.placed;
         flows = λ g x. ⊎_elim
             (λ e. rw e (rw (count_here (waiting_of l p + 1), sum_here (sum_of l p + len), row_here row)
@@ -211,7 +211,7 @@ module _ (T : Table) (l : Line) (ok : Sound T l) (p : ℕ) (in_table : p < T.n) 
         row_length = ok.shape.row_length;
       };
       flows_few = ok.flows_few;
-      overhead_in_lem = ok.overhead_in_lem;
+      overhead_in_range = ok.overhead_in_range;
       placed = inl in_table;
       flows = λ g x. ⊎_elim
           (λ e. rw e (rw (deficit_here d)
@@ -228,7 +228,7 @@ module _ (T : Table) (l : Line) (ok : Sound T l) (p : ℕ) (in_table : p < T.n) 
       shape = changed_shape (set l.deficits p d) (length-set l.deficits p d ∙ ok.shape.deficits_length) (waiting_of l p - 1)
           (sum_of l p - oldest l p) (shifted_of (row_of l p)) (shift_long (row_of l p) (ok.shape.row_length p low)) p true;
       flows_few = ok.flows_few;
-      overhead_in_lem = ok.overhead_in_lem;
+      overhead_in_range = ok.overhead_in_range;
       placed = inl in_table;
       flows = λ g x. ⊎_elim
           (λ e. rw e (rw (

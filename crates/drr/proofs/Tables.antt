@@ -43,7 +43,7 @@ fresh_sound {T} r = record {
     row_length = λ f low. ap length (empty_row f low);
   };
   flows_few = r.flows_few;
-  overhead_in_lem = r.overhead_in_lem;
+  overhead_in_range = r.overhead_in_range;
   placed = ⊎_elim
       (λ some. inl (omega arith))
       (λ none. inr (omega arith, r.no_overhead (omega arith), omega arith, refl))
@@ -69,7 +69,7 @@ sound_ranged {T} {l} ok = record {
   quanta_length = ok.shape.quanta_length;
   maxima_length = ok.shape.maxima_length;
   flows_few = ok.flows_few;
-  overhead_in_lem = ok.overhead_in_lem;
+  overhead_in_range = ok.overhead_in_range;
   no_overhead = λ none. ⊎_elim (λ some. absurd (omega arith)) (λ p. p.1) ok.placed;
   quantum_in = λ f k. let u = (ok.flows f (omega arith)).used k in (u.quantum_least, u.quantum_most);
   maximum_in = λ f k. let u = (ok.flows f (omega arith)).used k in (u.maximum_least, u.maximum_most);
@@ -87,7 +87,7 @@ no_flows_ranged = record {
   quanta_length = refl;
   maxima_length = refl;
   flows_few = omega arith;
-  overhead_in_lem = omega arith;
+  overhead_in_range = omega arith;
   no_overhead = λ _. refl;
   quantum_in = λ f l. absurd (omega arith);
   maximum_in = λ f l. absurd (omega arith);
@@ -159,7 +159,7 @@ made_ranged xs terms e =
           quanta_length = cells_long (λ r. r.quantum) 16 xs;
           maxima_length = cells_long (λ r. r.maximum) 16 xs;
           flows_few = few;
-          overhead_in_lem = ltb-false most_overhead terms.overhead w;
+          overhead_in_range = ltb-false most_overhead terms.overhead w;
           no_overhead = λ none. absurd (eqb-false (length xs) 0 (or_left (eqb (length xs) 0) (ltb most_flows (length xs)) p) none);
           quantum_in = λ f l. rw (cell_of (λ r. r.quantum) 16 f xs (omega arith) l) (flows_in_lem 0 xs h f l).quantum;
           maximum_in = λ f l. rw (cell_of (λ r. r.maximum) 16 f xs (omega arith) l) (flows_in_lem 0 xs h f l).maximum;

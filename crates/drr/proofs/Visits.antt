@@ -23,7 +23,7 @@ module _ (T : Table) (l : Line) (ok : Sound T l) where
       omega (arith, (h.used q).maximum_most, (h.waiting 0 (omega arith) c).1)
 
   pub charge_most : (f : ℕ) → f < T.n → 0 < waiting_of l f → oldest_charge T l f ≤ most_charge
-  charge_most f q c = omega (arith, length_most f q c, ok.overhead_in_lem)
+  charge_most f q c = omega (arith, length_most f q c, ok.overhead_in_range)
 
   -- with no visit open
   module _ (off : l.opened ≡ false) where

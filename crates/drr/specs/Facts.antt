@@ -48,7 +48,7 @@ pub record Ranged (T : Table) : Type 0 where
   pub quanta_length : length T.quanta ≡ 16
   pub maxima_length : length T.maxima ≡ 16
   pub flows_few : T.n ≤ most_flows
-  pub overhead_in_lem : T.overhead ≤ most_overhead
+  pub overhead_in_range : T.overhead ≤ most_overhead
   pub no_overhead : T.n ≡ 0 → T.overhead ≡ 0
   pub quantum_in : (f : ℕ) → f < T.n → (least_quantum ≤ quantum_of T f) × (quantum_of T f ≤ most_quantum)
   pub maximum_in : (f : ℕ) → f < T.n → (least_maximum ≤ maximum_of T f) × (maximum_of T f ≤ most_maximum)
@@ -67,7 +67,7 @@ pub record Shaped (T : Table) (l : Line) : Type 0 where
 pub record Sound (T : Table) (l : Line) : Type 0 where
   pub shape : Shaped T l
   pub flows_few : T.n ≤ most_flows
-  pub overhead_in_lem : T.overhead ≤ most_overhead
+  pub overhead_in_range : T.overhead ≤ most_overhead
   pub placed : (l.place < T.n) ⊎ ((T.n ≡ 0) × (T.overhead ≡ 0) × (l.place ≡ 0) × (l.opened ≡ false))
   pub flows : (f : ℕ) → f < most_flows → Flow T l f
 

@@ -54,7 +54,7 @@ module _ (T : Table) (s t : Line) (v : ℕ) (h : Along T s t v) (off : t.opened 
 
     pub sendable : oldest_charge T t f ≤ deficit_of t f + quantum_of T f → Sendable (bare (common_in T)) (open_at T t f) f
     sendable enough = record {
-      overhead = h.sound.overhead_in_lem;
+      overhead = h.sound.overhead_in_range;
       size = length-set t.deficits f (deficit_of t f + quantum_of T f) ∙ h.sound.shape.deficits_length;
       flow = flow_low;
       waits = flow.1;
@@ -128,7 +128,7 @@ module _ (T : Table) (l : Line) (ok : Sound T l) where
     module _ (w : 0 < waiting_of l p) (enough : oldest_charge T l p ≤ deficit_of l p) where
       pub ready : Sendable (bare (common_in T)) (with_visit l p true) p
       ready = record {
-        overhead = ok.overhead_in_lem;
+        overhead = ok.overhead_in_range;
         size = ok.shape.deficits_length;
         flow = low T l ok p (place_in T l ok on);
         waits = w;

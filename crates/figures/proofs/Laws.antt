@@ -46,7 +46,7 @@ module _ {T : Table} {i : ℕ} (k : Known T i) where
       }
     where
       charge_low : (f : ℕ) → f < T.n → maximum_charge T f ≤ most_charge
-      charge_low f h = omega (arith, (k.ranged.maximum_in f h).1, k.ranged.overhead_in_lem)
+      charge_low f h = omega (arith, (k.ranged.maximum_in f h).1, k.ranged.overhead_in_range)
 
   -- what the code adds up: the sums of the maxima, and of as many overheads
   pub maxima_low : total T.n (maximum_of T) ≤ most_flows * most_maximum

@@ -388,7 +388,7 @@ module _ (H : Here) where
           sound = sound' later a l' e;
           at_most = h.at_most;
           each_one = omega (arith, h.each_one, sent_is.1);
-          now_most = omega (arith, h.now_most, sent_most, h.sound.overhead_in_lem);
+          now_most = omega (arith, h.now_most, sent_most, h.sound.overhead_in_range);
           fuel = k;
           enough_fuel = omega (arith, some_fuel later a l' e (suc k) q, sent_is.1, late_most t m (now + charge T len) at);
           listed = filling_more h.listed (1 ∷ now ∷ f ∷ len ∷ d ∷ w ∷ []) _ (ap ahead q ∙ step_picks later a l' e k) line_fits k'

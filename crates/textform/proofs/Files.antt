@@ -69,7 +69,7 @@ module _ (b : List ℕ) (low : Bytes b) where
         let m = bytes2 (event_count b) in
         let stated : stated_length b ≡ length b = eqb-true (stated_length b) (length b) (not-false _ p.stated) in
         (λ j. n ++ m ++ bytes4 (sym w.flows_first j) ++ bytes4 (sym w.events_next j)
-        ++ bytes4 (sym (stated ∙ w.nothing_more_lem) j) ++ bytes4 (overhead_in b) ++ drop header_size b)
+        ++ bytes4 (sym (stated ∙ w.nothing_behind) j) ++ bytes4 (overhead_in b) ++ drop header_size b)
         ∙ header_parts long
 
     flows_part : each flow_bytes (flows_in b) ++ drop (event_offset b) b ≡ drop header_size b
@@ -81,7 +81,7 @@ module _ (b : List ℕ) (low : Bytes b) where
 
     events_part : each event_bytes (events_in b) ≡ drop (event_offset b) b
     events_part =
-        let all : length b ≤ event_offset b + 8 * event_count b = omega (arith, w.events_next, w.nothing_more_lem) in
+        let all : length b ≤ event_offset b + 8 * event_count b = omega (arith, w.events_next, w.nothing_behind) in
         sym (append-nil (each event_bytes (events_in b)))
         ∙ ap (λ (l : List ℕ). each event_bytes (events_in b) ++ l) (sym (drop_of_length-le b all))
         ∙ events_at (event_offset b) (event_count b) (laid_fine b ok).events_inside
@@ -115,9 +115,9 @@ header_ok b w stated small some few events =
     let m = event_count b in
     rw (
       tables_fine n m (flow_offset b) (event_offset b) (length b) w.flows_first (omega (arith, w.flows_first, w.events_next))
-          (omega (arith, w.events_next, w.nothing_more_lem)),
-      le-ltb (length b) header_size (omega (arith, w.nothing_more_lem)),
-      le-ltb most_bytes (length b) (omega (arith, w.nothing_more_lem)),
+          (omega (arith, w.events_next, w.nothing_behind)),
+      le-ltb (length b) header_size (omega (arith, w.nothing_behind)),
+      le-ltb most_bytes (length b) (omega (arith, w.nothing_behind)),
       eq-eqb (stated_length b) (length b) stated,
       le-ltb most_overhead (overhead_in b) small,
       ne_eqb n 0 (λ e. omega arith),
@@ -158,7 +158,7 @@ module _ (o : ℕ) (xs : List FlowRecord) (es : List Event) where
   no_gaps = record {
     flows_first = flow_offset_lem;
     events_next = event_offset_lem ∙ ap (λ (n : ℕ). header_size + 8 * n) (sym flow_count_lem);
-    nothing_more_lem = file_size o xs es ∙ (λ j. header_size + 8 * sym flow_count_lem j + 8 * sym event_count_lem j);
+    nothing_behind = file_size o xs es ∙ (λ j. header_size + 8 * sym flow_count_lem j + 8 * sym event_count_lem j);
   }
 
   pub header_read : o ≤ most_overhead → 1 ≤ length xs → length xs ≤ most_flows → length es ≤ most_events → header_answer file ≡ fine

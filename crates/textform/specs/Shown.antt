@@ -57,7 +57,7 @@ shown_within b room = cond (ltb room shown_room) [] (shown_text b)
 pub record FlowsThenEvents (b : List ℕ) : Type 0 where
   pub flows_first : flow_offset b ≡ header_size
   pub events_next : event_offset b ≡ header_size + 8 * flow_count b
-  pub nothing_more_lem : length b ≡ header_size + 8 * flow_count b + 8 * event_count b
+  pub nothing_behind : length b ≡ header_size + 8 * flow_count b + 8 * event_count b
 
 -- a text's records as they are shown again: an overhead of 0 is left out
 abbrev pub overheads_shown : ℕ → List ℕ

@@ -21,7 +21,7 @@ module _ (c : tie.After-u64-of-usize) where
   few =
       let r = known.ranged in
       let flows : c.u64_of_usize.result ≤ most_flows = omega (arith, c.u64_of_usize.ensures, r.flows_few) in
-      let overhead : O.u64_of_u32.result ≤ most_overhead = omega (arith, O.u64_of_u32.ensures.0, r.overhead_in_lem) in
+      let overhead : O.u64_of_u32.result ≤ most_overhead = omega (arith, O.u64_of_u32.ensures.0, r.overhead_in_range) in
       mul-le-mul flows overhead
 
 returns : tie.Need-returns

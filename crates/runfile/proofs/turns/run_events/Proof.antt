@@ -291,7 +291,7 @@ ticks_on c =
       arith,
       now_small (A₁ g),
       most g,
-      (ranged (K (A₁ g))).overhead_in_lem,
+      (ranged (K (A₁ g))).overhead_in_range,
       c.usize_of_u32.ensures.0,
       c.before.charge_of.ensures,
     )
@@ -344,7 +344,7 @@ run_events_spec =
     (λ c κs. _)
     (λ c κs. let g = c.before.before.before.before in (beside_fits (here (A₁ g)) (before_last g), few (A₁ g)))
     (λ c. let g = c.before.before.before.before.before.before.before in omega (arith, most g))
-    (λ c κs. let g = c.before.before.before.before.before.before.before in (ranged (K (A₁ g))).overhead_in_lem)
+    (λ c κs. let g = c.before.before.before.before.before.before.before in (ranged (K (A₁ g))).overhead_in_range)
     (λ c κs. _)
     (λ c. omega (arith, ticks_on c))
     (λ c κs. let g = told_of c.before in (fits (A₁ g), few (A₁ g)))

@@ -69,7 +69,7 @@ returns-4 c =
     let l = c.before.before in
     let m = l.before.before in
     let k = t (m2 (f m)) in
-    c.nothing_more_lem.ensures
+    c.nothing_more.ensures
     ∙ ap (λ (w : List ℕ). nothing_more w (EventOf k.said.given.0.0 (f m).said2.given.0.0 l.said3.given.0.0)) (behind3 m)
     ∙ whole_event (all m) _ (tick k) _ (flow (f m)) _ (sym (third m) ∙ l.said3.given.1)
 

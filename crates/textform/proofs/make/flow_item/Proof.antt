@@ -45,7 +45,7 @@ returns-3 : tie.Need-returns-3
 returns-3 c =
     let l = c.before.before in
     let m = l.before.before in
-    c.nothing_more_lem.ensures
+    c.nothing_more.ensures
     ∙ ap (λ (w : List ℕ). nothing_more w (FlowOf (q m).said.given.0.0 l.said2.given.0.0)) (behind m)
     ∙ whole_flow (ws (n (q m))) _ (quantum (q m)) _ (sym (next m) ∙ l.said2.given.1)
 

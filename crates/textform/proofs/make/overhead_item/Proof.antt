@@ -26,7 +26,7 @@ module _ (k : tie.After-said) where
 returns-2 : tie.Need-returns-2
 returns-2 c =
     let k = c.before.before in
-    c.nothing_more_lem.ensures
+    c.nothing_more.ensures
     ∙ ap (λ (w : List ℕ). nothing_more w (OverheadOf k.said.given.0.0)) (ap first (n k).number.ensures.number_behind)
     ∙ whole_overhead (ws (n k)) _ (overhead k)
 
