@@ -1,33 +1,28 @@
 -- The copying that `flows::setup` does, on lists and numbers alone: after i turns `Copied` is `copied_at` of the list, the terms and i.
 use mathlib.Core.Path.{◌≡◌, sym, ap, ◌∙◌}
-use mathlib.Core.Bool.{not, ◌||◌}
-use mathlib.Core.List.{List, [], ◌∷◌}
+use mathlib.Core.List.{List}
 use mathlib.Core.Logic.{⊎_elim}
 use Prim.Native.Nat.{ℕ, ◌+◌, ◌≤◌, ◌<◌, min}
 use native.Mathlib.Omega.{arith}
 use native.Mathlib.Nat.{zero-add}
-use lib.Dec.{eqb, ltb}
+use lib.Dec.{ltb}
 use lib.ListN.{length, get_or, replicate, take, length-take}
 use lib.Seq.{paste, take-paste, take_all}
-use Rattle.drr.specs.declared.Refusal.TheVariants.{FlowCount, QuantumRange, MaximumRange, OverheadRange}
 use Rattle.drr.specs.declared.FlowRecord.{FlowRecord}
 use Rattle.drr.specs.declared.Terms.{Terms}
 use Rattle.scheduler.specs.declared.flows.Copied.{Copied}
-use Rattle.drr.specs.declared.Made.{Made}
 use Rattle.drr.specs.declared.Table.{Table}
 use Rattle.drr.specs.Limits.{most_flows, most_overhead}
-use Rattle.drr.specs.Sound.{quantumb, maximumb}
 use Rattle.drr.specs.State.{fresh_state}
-use Rattle.drr.specs.Answers.{Answer, verdict_paper, Reply, reply}
-use Rattle.drr.specs.Setup.{flows_answer, setup_answer, setup_table, setup_reply}
+use Rattle.drr.specs.Answers.{Answer, Reply, reply}
+use Rattle.drr.specs.Setup.{setup_reply}
 use Rattle.scheduler.specs.Copying.{put_of}
-use Rattle.drr.proofs.Bools.{below?, by_test, dec}
+use Rattle.drr.proofs.Bools.{below?, dec}
 use Rattle.drr.proofs.Copies.{copy_turn}
-use Rattle.drr.proofs.Papers.{verdict_from, verdict_back, fine_back, refused_back}
 use Rattle.drr.proofs.Tables.{none}
 use Rattle.scheduler.proofs.Setups.{Gives, gives_over, too_many}
 
--- what setup gives of a list and the terms; the walk speaks of it by this name alone
+-- what setup gives of a list and the terms
 abbrev pub reply_on : Terms → List FlowRecord → Reply
 reply_on t xs = setup_reply xs t
 
@@ -36,7 +31,7 @@ abbrev pub copied_at : List FlowRecord → Terms → ℕ → Copied
 copied_at xs t i = record { records = paste (replicate 17 none) 0 xs i; at = i; todo = min (length xs) 17; terms = t }
 
 -- ---- a turn
-pub put_next : (xs : List FlowRecord) (t : Terms) (i : ℕ) → i < 17 → i < length xs →
+put_next : (xs : List FlowRecord) (t : Terms) (i : ℕ) → i < 17 → i < length xs →
     put_of (copied_at xs t i) (get_or xs i none) ≡ copied_at xs t (i + 1)
 put_next xs t i few l = simp (copy_turn (replicate 17 none) xs i none few l)
 
@@ -50,7 +45,7 @@ long_same xs ys t more more' = ⊎_elim
     (λ fits. gives_same xs ys t (too_many xs t fits more) (too_many ys t fits more'))
     (dec (ltb most_overhead t.overhead))
 
-pub copied_all : (xs : List FlowRecord) (t : Terms) (i : ℕ) → i ≡ min (length xs) 17 →
+copied_all : (xs : List FlowRecord) (t : Terms) (i : ℕ) → i ≡ min (length xs) 17 →
     reply_on t (take (copied_at xs t i).at (copied_at xs t i).records) ≡ reply_on t xs
 copied_all xs t i is = ap (reply_on t) first ∙ whole
   where

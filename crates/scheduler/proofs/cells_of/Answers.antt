@@ -1,4 +1,4 @@
-use Rattle.std.proofs.Common.{◌≡◌, ℕ, ◌≤◌, List, [], length, replicate, refl, rules, arith, ◌∙◌}
+use Rattle.std.proofs.Common.{◌≡◌, ℕ, List, [], length, replicate, refl, rules, arith, ◌∙◌}
 use Rattle.std.proofs.Math.ListN.{length-map}
 use Rattle.drr.specs.State.{lengths_of, row_from, cells_in}
 use Rattle.drr.proofs.Copies.{map_turn}

@@ -1,4 +1,4 @@
-use Rattle.std.proofs.Common.{◌≡◌, ℕ, ◌≤◌, List, [], length, replicate, refl, rules, arith, ◌∙◌}
+use Rattle.std.proofs.Common.{◌≡◌, List, [], length, replicate, refl, rules, arith, ◌∙◌}
 use Rattle.std.proofs.Math.ListN.{length-map}
 use Rattle.drr.specs.declared.Row.{Row}
 use Rattle.drr.specs.State.{row_from, rows_from}

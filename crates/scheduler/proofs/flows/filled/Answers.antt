@@ -1,5 +1,5 @@
-use Rattle.std.proofs.Common.{◌≡◌, ◌≤◌, ◌<◌, length, rules, arith}
-use Rattle.scheduler.proofs.Setups.{cells_more, table_filled}
+use Rattle.std.proofs.Common.{◌≤◌, ◌<◌, length, rules, arith}
+use Rattle.scheduler.proofs.Setups.{cells_more}
 use Rattle.scheduler.proofs.flows.filled.Goals as goal
 
 pub loop-f-preserved : goal.loop-f-preserved

@@ -1,8 +1,5 @@
-use Rattle.std.proofs.Common.{◌≡◌, false, List, length, rules, take, ◌∙◌}
+use Rattle.std.proofs.Common.{◌≡◌, length, rules, ◌∙◌}
 use borrow.Author.Tests.{lt-ltb, le-ltb}
-use Rattle.drr.specs.declared.FlowRecord.{FlowRecord}
-use Rattle.drr.specs.declared.FlowList.{FlowList}
-use Rattle.drr.specs.declared.Terms.{Terms}
 use Rattle.drr.specs.Limits.{most_overhead}
 use Rattle.drr.specs.Setup.{records_in}
 use Rattle.scheduler.proofs.Setups.{gives_over, gives_count, gives_bad, gives_table, counted}
