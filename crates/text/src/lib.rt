@@ -6,10 +6,9 @@ ghost use Rattle.std.proofs.lemmas.List.Edits.{sets};
 ghost use Rattle.io.specs.Digits.{last_digits};
 ghost use Rattle.text.specs.Text.{decimal, spaced_text, fields_text, form_text, fields_in, kinds, form_in, beside_line, beside_text};
 ghost use Rattle.text.specs.Text.{around_within, listing_within, beside_within, refusal_within, numbers_within, overlaid, Put};
-ghost use Rattle.text.specs.Text.{word_of, same};
+ghost use Rattle.text.specs.Text.{places, word_of, same};
 ghost use Rattle.text.specs.Text.{rest_text, time_text, timed_text, timed_within, parted_byte, parted};
 ghost use Rattle.text.specs.Text.{owed_title, last_title, later_titles, titles_within};
-ghost use Rattle.text.specs.Text.{places};
 
 // How many digits a number has.
 fn places(n: u64) -> usize

@@ -1,4 +1,4 @@
-use Rattle.std.proofs.Common.{◌≤◌, ◌<◌, ◌+◌, ◌*◌, length, arith}
+use Rattle.std.proofs.Common.{◌+◌, ◌*◌, length, arith}
 use Rattle.text.specs.Text.{beside_text, beside_within}
 use Rattle.text.proofs.Texts.{unfilled, filled}
 use Rattle.text.proofs.Lines.{beside_most}

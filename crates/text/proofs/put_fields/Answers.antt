@@ -1,5 +1,4 @@
 use Rattle.std.proofs.Common.{◌≡◌, ◌≤◌, ◌+◌, ℕ, List, [], ◌∷◌, length, refl, arith}
-use Rattle.std.proofs.Math.ListN.{length-set}
 use Rattle.text.specs.Text.{spaced_text, fields_text, Put}
 use Rattle.text.proofs.Texts.{Left, left_all, left_room, left_fits, left_next, left_end}
 use Rattle.text.proofs.Lines.{fields_parts}

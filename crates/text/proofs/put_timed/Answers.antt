@@ -1,4 +1,4 @@
-use Rattle.std.proofs.Common.{◌≡◌, ◌+◌, ◌<◌, ℕ, List, [], ◌∷◌, ◌++◌, length, get_or, drop, refl, arith}
+use Rattle.std.proofs.Common.{◌≡◌, ◌+◌, ◌<◌, ℕ, List, [], ◌∷◌, length, get_or, drop, refl, arith}
 use Rattle.std.proofs.Math.ListN.{length-set}
 use Rattle.text.specs.Text.{decimal, time_text, timed_text, Put}
 use Rattle.text.proofs.Texts.{Left, left_room, left_next, left_end}
@@ -20,8 +20,8 @@ bounds-buf-space c =
     omega (
       arith,
       left_room
-      (spaced l a.buf.now o.buf p.new.buf a.time o.at p.result o.i c.loop-i-test.true o.invariant p.ensures p.auto.buf)
-      (32 ∷ []) (timed_text (drop (o.i + 1) l) a.time) refl,
+          (spaced l a.buf.now o.buf p.new.buf a.time o.at p.result o.i c.loop-i-test.true o.invariant p.ensures p.auto.buf)
+          (32 ∷ []) (timed_text (drop (o.i + 1) l) a.time) refl,
     )
 
 pub loop-i-preserved : goal.loop-i-preserved
