@@ -6,14 +6,13 @@ ghost use Rattle.std.proofs.lemmas.List.Edits.{sets};
 ghost use Rattle.io.specs.Digits.{last_digits};
 ghost use Rattle.text.specs.Text.{decimal, spaced_text, fields_text, form_text, fields_in, kinds, form_in, beside_line, beside_text};
 ghost use Rattle.text.specs.Text.{around_within, listing_within, beside_within, refusal_within, numbers_within, overlaid, Put};
-ghost use Rattle.text.specs.Text.{word_of, same as sameOf};
+ghost use Rattle.text.specs.Text.{places, word_of, same};
 ghost use Rattle.text.specs.Text.{rest_text, time_text, timed_text, timed_within, parted_byte, parted};
 ghost use Rattle.text.specs.Text.{owed_title, last_title, later_titles, titles_within};
-ghost use Rattle.text.specs.Text.{places as Text·places};
 
 // How many digits a number has.
 fn places(n: u64) -> usize
-    ensures { result ≡ Text·places n }
+    ensures { result ≡ places n }
 {
     let mut k: usize = 1;
     let mut rest = n / 10;
@@ -99,6 +98,7 @@ fn put_line(form: Form, fields: &[u64], beside: &[u64], buf: &mut [u8], at: usiz
 }
 
 // The table of a listing's lines, by their kind.
+#[tactic(auto, unfolding(crate::specs::Text::kinds))]
 fn form_of(kind: u64) -> Form
     ensures { result ≡ form_in kinds kind }
 {
@@ -406,7 +406,7 @@ pub fn word_of(word: &[u8]) -> Word
 
 // Whether two words have the same bytes.
 pub fn same(a: &[u8], b: &[u8]) -> bool
-    ensures { result ≡ sameOf a.now b.now }
+    ensures { result ≡ same a.now b.now }
 {
     if a.len() != b.len() {
         return false;
