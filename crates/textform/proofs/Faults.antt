@@ -20,18 +20,6 @@ pub row : (v : Want) (a b : ℕ) → T (leb a b) → T (leb b (length every_word
 row v a b h g is w s e f =
     subst (λ (x : Want). Says x s) (sym e) (subst (Says v) (sym f) (record { ordered = leb→le a b h; inside = leb→le b _ g; says = is }))
 
--- .. and the line with them
-pub told : (line n : ℕ) (w : Want) (words b b' : List ℕ) (r : ℕ) → n ≡ line → words ≡ expected w →
-    Filled (around_within (spelt "line ") n words (length b)) b b' r →
-    (r ≡ length (fault_within line w (length b))) × ((b' ≡ overlaid (fault_within line w (length b)) b) × IsPrefixLen r b')
-told line n w words b b' r e is p =
-    let same : around_within (spelt "line ") n words (length b) ≡ fault_within line w (length b) =
-    ap (λ (k : ℕ). around_within (spelt "line ") k words (length b)) e
-    ∙ ap (λ (x : List ℕ). around_within (spelt "line ") line x (length b)) is in
-    let size : r ≡ length (fault_within line w (length b)) = p.0 ∙ ap length same in
-    let text : b' ≡ overlaid (fault_within line w (length b)) b = p.1 ∙ ap (λ (t : List ℕ). overlaid t b) same in
-    (size, (text, counted (fault_within line w (length b)) b b' r size text))
-
 -- 80 bytes are room for every fault
 pub fits : (line : ℕ) (w : Want) → fault_within line w 80 ≡ fault_text line w
 unfolding around_within

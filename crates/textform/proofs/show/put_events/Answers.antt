@@ -1,4 +1,4 @@
-use Rattle.std.proofs.Common.{refl, ap, List, [], ℕ, ◌+◌, ◌*◌, ◌-◌, ◌≤◌, ◌∙◌, length, take, drop, arith}
+use Rattle.std.proofs.Common.{refl, ap, List, [], ℕ, ◌+◌, ◌-◌, ◌≤◌, ◌∙◌, length, take, drop, arith}
 use Rattle.std.proofs.Math.Seq.{length-sets}
 use Rattle.runfile.specs.File.{event_at, events_from}
 use Rattle.text.proofs.Texts.{left_next, left_end, put_none, filled}

@@ -1,7 +1,6 @@
-use Rattle.std.proofs.Common.{refl, ap, List, [], ℕ, ◌+◌, ◌*◌, ◌-◌, ◌≤◌, ◌∙◌, length, get_or, take, drop, length-drop, arith}
+use Rattle.std.proofs.Common.{refl, ap, List, [], ℕ, ◌+◌, ◌-◌, ◌≤◌, ◌∙◌, length, get_or, take, drop, arith}
 use Rattle.std.proofs.Math.Seq.{length-sets}
 use Rattle.text.proofs.Texts.{left_next, left_end, put_none, filled}
-use Rattle.text.proofs.Lines.{to_end}
 use Rattle.answers.proofs.Given.{as_text}
 use Rattle.answers.proofs.FlowLines.{part_put}
 use Rattle.textform.specs.Made.{each}
