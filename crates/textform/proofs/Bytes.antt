@@ -5,8 +5,8 @@ use Prim.Native.Nat.{ℕ, zero, suc, ◌+◌, ◌*◌, ◌/◌, ◌%◌, ◌≤�
 use native.Mathlib.Nat.{add-zero}
 use native.Mathlib.Numerals.{add-one}
 use native.Mathlib.Omega.{arith}
-use lib.ListN.{length, get_or, take, drop, length-append}
-use lib.Seq.{drop-cons, drop-append_seam, drop-drop, get_or-drop}
+use lib.ListN.{length, get_or, drop, length-append}
+use lib.Seq.{drop-cons, drop-drop, get_or-drop}
 use Rattle.drr.specs.declared.FlowRecord.{FlowRecord}
 use Rattle.runfile.specs.File.{Event, le2, le4, header_size, flows_from, event_at, events_from}
 use Rattle.textform.specs.Made.{bytes2, bytes4, flow_bytes, event_bytes, each, header_bytes, record_bytes, file_of}

@@ -1,13 +1,9 @@
 -- The line that tells a fault.
-use mathlib.Core.Path.{◌≡◌, refl, sym, ap, ◌∙◌, subst}
-use mathlib.Core.List.{List}
+use mathlib.Core.Path.{◌≡◌, refl, sym, subst}
 use Prim.Native.Nat.{ℕ, ◌-◌}
 use lib.Dec.{T, leb, leb→le}
 use lib.ListN.{length, take, drop}
-use Rattle.io.specs.Counts.{IsPrefixLen}
-use Rattle.text.specs.Spelt.{spelt}
-use Rattle.text.specs.Text.{around_within, overlaid}
-use Rattle.text.proofs.Texts.{Filled, counted}
+use Rattle.text.specs.Text.{around_within}
 use Rattle.textform.specs.declared.told.Span.{Span}
 use Rattle.textform.specs.declared.Want.{Want}
 use Rattle.textform.specs.declared.Want.TheVariants as want

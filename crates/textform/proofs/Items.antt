@@ -1,18 +1,13 @@
 -- A line up to its comment.
-use mathlib.Core.Path.{◌≡◌, refl, sym, ap}
-use mathlib.Core.Bool.{true, false, false≢true}
+use mathlib.Core.Path.{◌≡◌, refl, ap}
 use mathlib.Core.Logic.{⊎_elim}
 use mathlib.Core.List.{List, [], ◌∷◌}
 use Prim.Native.Nat.{ℕ}
 use lib.Dec.{eqb}
-use lib.ListN.{length, take}
+use lib.ListN.{take}
 use Rattle.drr.proofs.Bools.{dec}
-use Rattle.text.specs.Text.{same}
-use Rattle.textform.specs.declared.Want.TheVariants as want
-use Rattle.textform.specs.declared.Item.TheVariants.{Wrong}
 use Rattle.textform.specs.declared.make.Sort.TheVariants.{Uncommented}
-use Rattle.textform.specs.Grammar.{uncommented, first, others, overhead_word, flow_word, event_word}
-use Rattle.textform.specs.Grammar.{overhead_item, flow_item, event_item, item_in}
+use Rattle.textform.specs.Grammar.{uncommented}
 use Rattle.textform.specs.Needs.{leading}
 
 pub before_comment : (t : List ℕ) → take (leading Uncommented t) t ≡ uncommented t

@@ -3,19 +3,16 @@ use mathlib.Core.Path.{◌≡◌, refl, sym, ap, ◌∙◌}
 use mathlib.Core.Bool.{Bool, true, false, cond}
 use mathlib.Core.Logic.{⊎_elim}
 use mathlib.Core.List.{List, [], ◌∷◌, ◌++◌, append-nil, append_assoc}
-use Prim.Native.Nat.{ℕ, suc, ◌+◌, ◌-◌, ◌≤◌, ◌<◌}
+use Prim.Native.Nat.{ℕ, suc, ◌+◌, ◌-◌, ◌≤◌}
 use native.Mathlib.Nat.{suc-ne-zero}
 use native.Mathlib.Omega.{arith}
-use native.Mathlib.Numerals.{add-one}
-use lib.Dec.{eqb}
-use lib.ListN.{length, get_or, take, drop, drop_of_length-le, length-drop}
-use lib.Seq.{drop-cons, drop-drop, length-take-le}
+use lib.ListN.{length, take, drop, length-drop}
+use lib.Seq.{drop-drop, length-take-le}
 use Rattle.drr.proofs.Bools.{dec}
 use Rattle.textform.specs.declared.make.Sort.{Sort}
 use Rattle.textform.specs.declared.make.Sort.TheVariants.{Blank, Solid}
 use Rattle.textform.specs.declared.make.Token.{Token}
 use Rattle.textform.specs.Grammar.{blankb, words_from, words_of, first, others}
-use Rattle.textform.specs.Made.{newlines}
 use Rattle.textform.specs.Needs.{of_sort, leading, Next}
 
 most_by : (t : Bool) (a n : ℕ) → a ≤ n → cond t (suc a) 0 ≤ suc n

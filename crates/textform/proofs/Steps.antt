@@ -1,21 +1,18 @@
 -- A record more: the draft after it, and the file that holds it.
-use mathlib.Core.Path.{◌≡◌, refl, sym, ap, ◌∙◌}
+use mathlib.Core.Path.{◌≡◌, refl, ap, ◌∙◌}
 use mathlib.Core.List.{List, [], ◌∷◌, ◌++◌}
 use Prim.Native.Nat.{ℕ, ◌+◌, ◌*◌, ◌≤◌, ◌<◌}
 use native.Mathlib.Omega.{arith}
-use native.Mathlib.Nat.{zero-add}
-use borrow.Author.Tests.{le-ltb, lt-ltb, le-leb, lt-leb, eq-eqb, ne_eqb}
+use borrow.Author.Tests.{le-ltb, lt-leb, ne_eqb}
 use lib.ListN.{length, length-append}
 use lib.Seq.{sets, length-sets}
 use Rattle.drr.specs.declared.FlowRecord.{FlowRecord}
 use Rattle.drr.specs.Limits.{most_flows, most_events}
 use Rattle.runfile.specs.File.{Event, header_size}
-use Rattle.text.proofs.Texts.{sets_two}
 use Rattle.textform.specs.declared.make.Progress.{Progress}
-use Rattle.textform.specs.declared.make.Put.TheVariants.{Goes, Stops}
-use Rattle.textform.specs.declared.Want.TheVariants as want
-use Rattle.textform.specs.declared.Item.TheVariants.{Nothing, OverheadOf, FlowOf, EventOf}
-use Rattle.textform.specs.Made.{draft, overhead_said, flow_of, event_of, with_overhead, with_flow, with_event}
+use Rattle.textform.specs.declared.make.Put.TheVariants.{Goes}
+use Rattle.textform.specs.declared.Item.TheVariants.{FlowOf, EventOf}
+use Rattle.textform.specs.Made.{draft, flow_of, event_of, with_flow, with_event}
 use Rattle.textform.specs.Made.{flow_bytes, event_bytes, record_bytes}
 use Rattle.textform.specs.Needs.{Fits, Holds, Stepped}
 use Rattle.textform.proofs.Puts.{put_flow, put_event}

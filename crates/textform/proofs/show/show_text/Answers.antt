@@ -1,4 +1,4 @@
-use Rattle.std.proofs.Common.{◌≡◌, sym, refl, ap, List, ℕ, ◌++◌, ◌+◌, ◌*◌, ◌≤◌, ◌<◌, ◌∙◌, length, arith}
+use Rattle.std.proofs.Common.{◌≡◌, sym, refl, ap, List, ℕ, ◌+◌, ◌*◌, ◌≤◌, ◌∙◌, length, arith}
 use Rattle.std.proofs.Math.Seq.{length-sets}
 use Rattle.drr.specs.declared.Table.{Table}
 use Rattle.drr.specs.declared.Verdict.{Verdict}
