@@ -74,7 +74,7 @@ module _ (b : List ℕ) where
                 header_answer b ≡ cond (not v) (refused_at 12 0) fine
             left_6 t5 {r} {v} told t =
                 let e : tables_in ≡ v =
-                    ap (λ (x : Layout). tablesb x.flows.count x.events.count x.flows.at x.events.at (length b)) (sym is) ∙ sym told ∙ t in
+                ap (λ (x : Layout). tablesb x.flows.count x.events.count x.flows.at x.events.at (length b)) (sym is) ∙ sym told ∙ t in
                 left_4 ∙ rw (flows t4, le-ltb most_events (event_count b) (omega (arith, events, t5)), e)
 
 pub returns-then-size : goal.returns-then-size
@@ -93,7 +93,7 @@ returns-then-le4-size c =
 pub returns-then-le4 : goal.returns-then-le4
 returns-then-le4 c =
     let n = none _ OverheadRange c.no_tables-then-le4.ensures
-        (refused_3 _ c.if-size.false (sym c.le4.ensures.0 ∙ c.if-le4-size.false) (omega (arith, c.le4-2.ensures.0, c.if-le4.true))) in
+    (refused_3 _ c.if-size.false (sym c.le4.ensures.0 ∙ c.if-le4-size.false) (omega (arith, c.le4-2.ensures.0, c.if-le4.true))) in
     record { answer_value = n.0; layout_value = n.1 }
 
 pub layout_of-layout-requires : goal.layout_of-layout-requires
@@ -102,26 +102,26 @@ layout_of-layout-requires c = long c.args.file.now c.if-size.false
 pub returns-then-flows : goal.returns-then-flows
 returns-then-flows c =
     let n = none _ FlowCount c.no_tables-then-flows.ensures
-        (refused_4 _ c.if-size.false (sym c.le4.ensures.0 ∙ c.if-le4-size.false) (omega (arith, c.le4-2.ensures.0, c.if-le4.false))
-        _ c.layout_of-layout.ensures.0 c.if-flows.true) in
+    (refused_4 _ c.if-size.false (sym c.le4.ensures.0 ∙ c.if-le4-size.false) (omega (arith, c.le4-2.ensures.0, c.if-le4.false))
+    _ c.layout_of-layout.ensures.0 c.if-flows.true) in
     record { answer_value = n.0; layout_value = n.1 }
 
 pub returns-then-events-gt-MOST_EVENTS : goal.returns-then-events-gt-MOST_EVENTS
 returns-then-events-gt-MOST_EVENTS c =
     let n = none _ EventCount c.no_tables-then-events-gt-MOST_EVENTS.ensures
-        (refused_5 _ c.if-size.false (sym c.le4.ensures.0 ∙ c.if-le4-size.false) (omega (arith, c.le4-2.ensures.0, c.if-le4.false))
-        _ c.layout_of-layout.ensures.0 c.if-flows.false c.if-events-gt-MOST_EVENTS.true) in
+    (refused_5 _ c.if-size.false (sym c.le4.ensures.0 ∙ c.if-le4-size.false) (omega (arith, c.le4-2.ensures.0, c.if-le4.false))
+    _ c.layout_of-layout.ensures.0 c.if-flows.false c.if-events-gt-MOST_EVENTS.true) in
     record { answer_value = n.0; layout_value = n.1 }
 
 pub returns-then-not-tables_ok : goal.returns-then-not-tables_ok
 returns-then-not-tables_ok c =
     let n = none _ TablePlace c.no_tables-then-not-tables_ok.ensures
-        (sym (left_6 _ c.if-size.false (sym c.le4.ensures.0 ∙ c.if-le4-size.false) (omega (arith, c.le4-2.ensures.0, c.if-le4.false))
-        _ c.layout_of-layout.ensures.0 c.if-flows.false c.if-events-gt-MOST_EVENTS.false c.tables_ok.ensures c.if-not-tables_ok.true)) in
+    (sym (left_6 _ c.if-size.false (sym c.le4.ensures.0 ∙ c.if-le4-size.false) (omega (arith, c.le4-2.ensures.0, c.if-le4.false))
+    _ c.layout_of-layout.ensures.0 c.if-flows.false c.if-events-gt-MOST_EVENTS.false c.tables_ok.ensures c.if-not-tables_ok.true)) in
     record { answer_value = n.0; layout_value = n.1 }
 
 pub returns : goal.returns
 returns c =
     let ok = left_6 _ c.if-size.false (sym c.le4.ensures.0 ∙ c.if-le4-size.false) (omega (arith, c.le4-2.ensures.0, c.if-le4.false))
-        _ c.layout_of-layout.ensures.0 c.if-flows.false c.if-events-gt-MOST_EVENTS.false c.tables_ok.ensures c.if-not-tables_ok.false in
+    _ c.layout_of-layout.ensures.0 c.if-flows.false c.if-events-gt-MOST_EVENTS.false c.tables_ok.ensures c.if-not-tables_ok.false in
     record { answer_value = sym ok; layout_value = c.layout_of-layout.ensures.0 ∙ sym (layout_is c.args.file.now ok) }

@@ -1,6 +1,5 @@
 use Rattle.std.proofs.Common.{◌≡◌, ◌*◌, ◌-◌, ◌≤◌, ℕ, List, length, take, drop, arith, sym, ap, ◌∙◌, length-drop}
 use Rattle.drr.specs.Answers.{fine, verdict_paper}
-use Rattle.drr.specs.Setup.{setup_answer}
 use Rattle.runfile.specs.declared.reader.Layout.{Layout}
 use Rattle.runfile.specs.File.{header_answer, layout_in, event_count, event_offset, events_in, events_from, ticks_answer}
 use Rattle.runfile.proofs.Files.{part_is, laid_fine, flows_refused, ticks_refused, all_fine}

@@ -1,4 +1,4 @@
-use Rattle.std.proofs.Common.{ℕ, ◌≡◌, ◌+◌, ◌*◌, ◌≤◌, ◌<◌, List, set, take, replicate, arith, refl, sym, ap, ◌∙◌, zero-add}
+use Rattle.std.proofs.Common.{ℕ, ◌≡◌, ◌+◌, ◌*◌, ◌≤◌, ◌<◌, List, set, take, replicate, arith, sym, ap, ◌∙◌, zero-add}
 use lib.Seq.{paste, take-paste, take_all}
 use Rattle.drr.specs.Limits.{most_flows}
 use Rattle.drr.specs.declared.FlowRecord.{FlowRecord}

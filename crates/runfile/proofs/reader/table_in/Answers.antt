@@ -2,7 +2,7 @@ use Rattle.std.proofs.Common.{◌≡◌, sym, ap, ◌∙◌}
 use Rattle.drr.specs.State.{fresh_state}
 use Rattle.drr.specs.Answers.{fine, verdict_paper, reply}
 use Rattle.runfile.specs.declared.reader.Layout.{Layout}
-use Rattle.runfile.specs.File.{header_answer, layout_in}
+use Rattle.runfile.specs.File.{header_answer}
 use Rattle.runfile.proofs.Files.{laid_fine, layout_is, flows_none, flows_some}
 use Rattle.runfile.proofs.reader.table_in.Goals as goal
 
