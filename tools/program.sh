@@ -75,8 +75,9 @@ crates_of() {
     awk -v program="$1" '
         { sub(/#.*/, ""); at = index($0, ":") }
         at {
-            crate = substr($0, 1, at - 1)
-            gsub(/[ \t]/, "", crate)
+            # behind the name other words may stand, as staticlib
+            split(substr($0, 1, at - 1), words, " ")
+            crate = words[1]
             list[++n] = crate
             on[crate] = substr($0, at + 1)
         }
@@ -95,12 +96,22 @@ crates_of() {
         }' "$top/crates.txt"
 }
 
-# what rt makes of a crate, as a file and in words: a program, or of exports the archive for other languages
+# what rt makes of a crate, as a file and in words: a program, or of exports_c the archive for other languages
 made_of() {
-    case $1 in exports) echo target/staticlib/libexports.a ;; *) echo "target/bin/$1" ;; esac
+    case $1 in exports_c) echo "crates/$1/out/lib$1.a" ;; *) echo "crates/$1/out/$1" ;; esac
 }
 called() {
-    case $1 in exports) echo "the archive of the library" ;; *) echo "the program $1" ;; esac
+    case $1 in exports_c) echo "the archive of the library" ;; *) echo "the program $1" ;; esac
+}
+
+# the folders that rt reads of its crates, and not what rt itself leaves beside them
+sources_of() {
+    for crate in $(crates_of "$1"); do
+        echo "crates/$crate/src"
+        for part in specs proofs; do
+            [ ! -d "$top/crates/$crate/$part" ] || echo "crates/$crate/$part"
+        done
+    done
 }
 
 # why it has to be built; nothing if it is there and no source of its crates is newer. A file that was
@@ -111,27 +122,32 @@ why_build() {
         echo "$(called "$1") is not built"
         return
     fi
-    newer=$(cd "$top" && find -L crates.txt $(crates_of "$1" | sed 's|^|crates/|') -name must-fail -prune -o \
-        -newer "$made" -print 2>/dev/null) || { echo "a source of $(called "$1") is missing" && return; }
+    newer=$(cd "$top" && find -L crates.txt $(sources_of "$1") -newer "$made" -print 2>/dev/null) ||
+        { echo "a source of $(called "$1") is missing" && return; }
     [ -z "$newer" ] || echo "${newer%%"$newline"*} is newer than $(called "$1")"
 }
 
-# shows what rt says of each crate as it comes, of so many crates; if rt fails, the errors too. The rest of
-# what the prover says is long, and rt keeps it in target/log
+# shows each crate as it is proved, of so many crates; if rt fails, the errors too. The rest of what the
+# prover says is long, and stands in target/build.log
 show_build() {
-    proved=0 said=
+    proved=0 crate= built=no said=
     while IFS= read -r line; do
         case $line in
+        'crate '*': '*) crate=${line#crate } crate=${crate%%:*} ;;
+        'logic=proved '*)
+            proved=$((proved + 1))
+            echo "$name: crate $proved of $1, $crate proved" >&2
+            ;;
+        'rt: running '*) built=yes ;;
         'rt: ended 0') return 0 ;;
         'rt: ended '*)
+            # where the program ran, that status is its own
+            [ "$built" = no ] || return 0
             printf '%s' "$said" >&2
             return 1
             ;;
-        'rt: '*' proved ('*)
-            proved=$((proved + 1))
-            echo "$name: crate $proved of $1, ${line#rt: }" >&2
-            ;;
-        'rt: '* | *': error'*) said=$said$line$newline ;;
+        'rt: chose '*) ;;
+        'rt: '* | *': error'* | *': it is not proved '*) said=$said$line$newline ;;
         esac
     done
     return 1
@@ -142,9 +158,9 @@ show_build() {
 # and one that rt found unchanged is not
 build() (
     command -v rt >/dev/null 2>&1 || stop 2 "$2, and rt, the Rattle toolchain that builds it, is not here"
-    made=$(made_of "$1") lock=$top/target/lock verb=check
-    case $1 in exports) verb=staticlib ;; esac
-    { mkdir -p "$top/${made%/*}" && true >>"$lock"; } 2>/dev/null || stop 2 "$2, and $top/target cannot be written"
+    made=$(made_of "$1") lock=$top/target/lock verb=run
+    case $1 in exports_c) verb=lib ;; esac
+    { mkdir -p "$top/target" && true >>"$lock"; } 2>/dev/null || stop 2 "$2, and $top/target cannot be written"
     exec 9>>"$lock"
     if command -v flock >/dev/null 2>&1 && ! flock -n 9; then
         echo "$name: $2; waiting for a build that is under way here" >&2
@@ -152,13 +168,12 @@ build() (
         [ -n "$(why_build "$1")" ] || exit 0
     fi
     touch "$lock"
-    # rt goes by its stamp: with that in place it would not make a program again that was removed
-    [ -f "$top/$made" ] || rm -f "$top/target/stamp/$1"
     crates=$(crates_of "$1" | wc -l)
     echo "$name: $2; building it ($((crates)) crates, in some minutes if none is proved yet)" >&2
-    { cd "$top" && rt "$verb" "$1" 2>&1 </dev/null; echo "rt: ended $?"; } | show_build "$((crates))" &&
-        [ -f "$top/$made" ] && touch -r "$lock" "$top/$made" ||
-        stop 2 "$(called "$1") could not be built ($top/target/log has more)"
+    # rt runs a program that it has built: with no input, and what it prints goes the way of the rest
+    { cd "$top/crates/$1" && rt "$verb" 2>&1 </dev/null; echo "rt: ended $?"; } | tee "$top/target/build.log" |
+        show_build "$((crates))" && [ -f "$top/$made" ] && touch -r "$lock" "$top/$made" ||
+        stop 2 "$(called "$1") could not be built ($top/target/build.log has more)"
 )
 
 # sees that what is made of these crates is there and not older than their sources
@@ -172,7 +187,7 @@ ready() {
 # makes a run file of the text form that this command prints, into `bytes`: as octal escapes, since a
 # shell's variable holds no byte 0. A text with a fault gets no bytes but a line, which ends up in `fault`
 make_bytes() {
-    bytes=$("$@" | "$top/target/bin/drrmake" 2>&1 | od -A n -v -t o1 | tr -d '\n' | sed 's/ /\\/g') fault=
+    bytes=$("$@" | "$top/$(made_of drrmake)" 2>&1 | od -A n -v -t o1 | tr -d '\n' | sed 's/ /\\/g') fault=
     case $bytes in
     # a run file starts with its count of flows, 1 to 16 in two bytes; what is said of a fault with 'line '
     '\0'[012][0-7]'\000'*) whole_bytes ;;
