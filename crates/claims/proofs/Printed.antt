@@ -68,8 +68,8 @@ unfolding run_text file_answer header_answer arrival_of first_of look_for calls 
 worked_printed = refl
 
 -- .. with the bytes that wait in each line's flow, as `drrrun --waiting` prints it: by hand from the events
-abbrev pub worked_waiting : List ℕ
-worked_waiting =
+abbrev pub worked_waiting_text : List ℕ
+worked_waiting_text =
     spelt "S 0 0 200 300 1 750\n" ++
     spelt "D 100 2 700 3 400\n" ++
     spelt "S 200 2 400 0 2 0\n" ++
@@ -78,9 +78,9 @@ worked_waiting =
     spelt "S 1850 1 250 150 1 0\n" ++
     spelt "E 2100 5 1\n"
 
-pub worked_waiting_lem : waiting_text worked ≡ worked_waiting
+pub worked_waiting : waiting_text worked ≡ worked_waiting_text
 unfolding waiting_text file_answer header_answer arrival_of first_of look_for calls listing beside_text line_text kinds decimal places
-worked_waiting_lem = refl
+worked_waiting = refl
 
 -- ---- without the option nothing stands beside a line: of six numbers, the letter and the fields of the line's form
 none_beside : (t : Bool) → cond {A = List ℕ} t [] [] ≡ []
@@ -98,8 +98,8 @@ plain_listing k a b c d e more =
 abbrev pub worked_sizes : List ℕ
 worked_sizes = 10000 ∷ 100000 ∷ 1000000 ∷ []
 
-abbrev pub worked_figures : List ℕ
-worked_figures =
+abbrev pub worked_figures_text : List ℕ
+worked_figures_text =
     spelt "0 500 800 1610000 3221 2825 40325 415325\n" ++
     spelt "1 300 800 1410000 4701 1325 23825 248825\n" ++
     spelt "2 400 600 1440000 3601 2134 32134 332134\n"
@@ -126,9 +126,9 @@ ranged : Ranged T₀
 unfolding setup_answer
 ranged = made_ranged (flows_in worked) (terms_of 0) refl
 
-pub worked_figures_lem : figures_text worked worked_sizes plain ≡ worked_figures
+pub worked_figures : figures_text worked worked_sizes plain ≡ worked_figures_text
 unfolding figures_text flows_reply header_answer setup_answer setup_table decimal places
-worked_figures_lem =
+worked_figures =
     λ j. parted 32
     (numbers_text (line_is T₀ ranged 0 (lit< tt) j) ++ (numbers_text (line_is T₀ ranged 1 (lit< tt) j)
     ++ (numbers_text (line_is T₀ ranged 2 (lit< tt) j) ++ [])))

@@ -94,9 +94,9 @@ pub record Charged : Type 0 where
   pub lengths : bytes_given (just_flow 1) (answers_to charged_both four) ≡ 2
   pub waiting : bytes_waiting_in 1 (after_calls charged_both four) ≡ 1
 
-pub with_overhead_lem : Charged
+pub with_overhead : Charged
 unfolding all cellsb flowb soundb guarded arrival_of first_of look_for setup_answer setup_table owed least_from
-with_overhead_lem = record {
+with_overhead = record {
   waits = (lit< tt, (lit< tt, (lit< tt, (lit< tt, tt))));
   bytes = refl;
   owes = refl;
@@ -108,7 +108,7 @@ with_overhead_lem = record {
 
 pub floor_with_overhead : owed charged.table 1 (bytes_sent charged_both four) ≤ flow_sent charged_both four 1
 unfolding setup_answer setup_table
-floor_with_overhead = the_floor charged (setup_sound tiny (terms_of 20)) arrivals four 1 (lit< tt) with_overhead_lem.waits
+floor_with_overhead = the_floor charged (setup_sound tiny (terms_of 20)) arrivals four 1 (lit< tt) with_overhead.waits
 
 pub account_with_overhead : Even (just_flow 1) (bytes_waiting_in 1) charged (arrivals ++ four)
 unfolding setup_answer setup_table

@@ -30,13 +30,6 @@ returns-in-Refused c =
     c.refusal_line.ensures in
     record { value = g.0; buf_after = g.1.0; prefix_len = g.1.1 }
 
-pub put_dressed-requires : goal.put_dressed-requires
-put_dressed-requires c = (
-  subst SoundState (sym (ap (λ (r : Reply). r.state) c.read_flows-made.ensures)) (flows_sound c.args.file.now),
-  c.if-sizes-gt-MOST_SIZES.false,
-  c.if-buf-lt-FIGURES_ROOM.false,
-)
-
 pub returns : goal.returns
 returns c =
     let a = c.args in
@@ -49,3 +42,10 @@ returns c =
     ∙ figures_fit a.file.now a.sizes.now a.dress (length a.buf.now) room c.if-sizes-gt-MOST_SIZES.false)
     c.put_dressed.ensures in
     record { value = g.0; buf_after = g.1.0; prefix_len = g.1.1 }
+
+pub put_dressed-requires : goal.put_dressed-requires
+put_dressed-requires c = (
+  subst SoundState (sym (ap (λ (r : Reply). r.state) c.read_flows-made.ensures)) (flows_sound c.args.file.now),
+  c.if-sizes-gt-MOST_SIZES.false,
+  c.if-buf-lt-FIGURES_ROOM.false,
+)

@@ -20,6 +20,15 @@ module _ (T : Table) (b b' : List ℕ) (at : ℕ) (enough : figures_room ≤ len
   behind : titled_room ≤ length (take (length b' - at) (drop at b'))
   behind = omega (arith, room, ap length (to_end at b'), length-drop at b')
 
+pub returns : goal.returns
+returns c =
+    let a = c.args in
+    let p = c.overhead_line-at in
+    let most = titled_most a.s.table a.sizes.now a.dress c.requires.1 c.requires.0.flows_few in
+    two_filled (overhead_text a.s.table.overhead) (titled_text a.s.table a.sizes.now a.dress) a.buf.now _ _ _ _
+    (omega (arith, overhead_most a.s.table.overhead, most, c.requires.2))
+    (begun a.s.table a.buf.now _ _ c.requires.2 p.auto.buf p.ensures) c.put_titled.ensures
+
 pub put_titled-requires : goal.put_titled-requires
 put_titled-requires c =
     let p = c.overhead_line-at in
@@ -37,12 +46,3 @@ overflow_add-result c =
       overhead_most a.s.table.overhead,
       titled_most a.s.table a.sizes.now a.dress c.requires.1 c.requires.0.flows_few,
     )
-
-pub returns : goal.returns
-returns c =
-    let a = c.args in
-    let p = c.overhead_line-at in
-    let most = titled_most a.s.table a.sizes.now a.dress c.requires.1 c.requires.0.flows_few in
-    two_filled (overhead_text a.s.table.overhead) (titled_text a.s.table a.sizes.now a.dress) a.buf.now _ _ _ _
-    (omega (arith, overhead_most a.s.table.overhead, most, c.requires.2))
-    (begun a.s.table a.buf.now _ _ c.requires.2 p.auto.buf p.ensures) c.put_titled.ensures

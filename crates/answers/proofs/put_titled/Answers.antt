@@ -24,15 +24,6 @@ module _ (T : Table) (sizes : List ℕ) (dress : Dress) (b b' : List ℕ) (at : 
   behind : flows_room ≤ length (take (length b' - at) (drop at b'))
   behind = omega (arith, room, ap length (to_end at b'), length-drop at b')
 
-pub put_flows-requires : goal.put_flows-requires
-put_flows-requires c =
-    let a = c.args in
-    let t = c.titles_text-at in (
-      c.requires.0,
-      c.requires.1,
-      behind a.s.table a.sizes.now a.dress a.buf.now _ _ c.requires.1 c.requires.0.flows_few c.requires.2 t.auto.buf t.ensures.value t.ensures.buf_after,
-    )
-
 pub returns-then-titled : goal.returns-then-titled
 returns-then-titled c =
     let a = c.args in
@@ -48,3 +39,12 @@ pub returns : goal.returns
 returns c =
     let a = c.args in
     as_text _ _ a.buf.now _ _ (without_titles a.s.table a.sizes.now a.dress c.if-titled.false) c.put_flows-2.ensures
+
+pub put_flows-requires : goal.put_flows-requires
+put_flows-requires c =
+    let a = c.args in
+    let t = c.titles_text-at in (
+      c.requires.0,
+      c.requires.1,
+      behind a.s.table a.sizes.now a.dress a.buf.now _ _ c.requires.1 c.requires.0.flows_few c.requires.2 t.auto.buf t.ensures.value t.ensures.buf_after,
+    )

@@ -4,10 +4,6 @@ use Rattle.engine.proofs.Loop.{Ends, starts_shut, stops_short, stops_empty, read
 use Rattle.engine.proofs.pick_in.Goals as goal
 use Rattle.engine.proofs.pick_in.Goals.{then-spot+then-counts-f-gt0+else-charge_of-deficits, then-spot+else-counts-f-gt0, else-spot}
 
-pub send-requires : goal.send-requires
-send-requires c =
-    ready (table_of c.args.common c.args.quanta.now c.args.maxima.now) _ c.requires c.if-spot.true c.if-counts-f-gt0.true (rw c.charge_of.ensures at c.if-charge_of-deficits.true)
-
 pub returns-then-charge_of-deficits : goal.returns-then-charge_of-deficits
 returns-then-charge_of-deficits c =
     c.send.ensures
@@ -25,8 +21,12 @@ ends c =
       | else-spot w ↦ starts_shut _ _ c.requires w.if-spot.false _ w.deficits-is
     ]
 
-pub look-requires : goal.look-requires
-look-requires c = (ends c).sound
-
 pub returns : goal.returns
 returns c = c.look.ensures ∙ (ends c.before).same
+
+pub send-requires : goal.send-requires
+send-requires c =
+    ready (table_of c.args.common c.args.quanta.now c.args.maxima.now) _ c.requires c.if-spot.true c.if-counts-f-gt0.true (rw c.charge_of.ensures at c.if-charge_of-deficits.true)
+
+pub look-requires : goal.look-requires
+look-requires c = (ends c).sound

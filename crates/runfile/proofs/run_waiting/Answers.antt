@@ -63,14 +63,6 @@ returns-in-Refused c =
     let l = run_leaves a.file.now space a.out.now a.beside.now c.in-Refused.why _ r in
     record { result_value = r; out_after = l.0; beside_after = l.1 }
 
-pub overflow_add-m : goal.overflow_add-m
-overflow_add-m c =
-    omega (arith, few _ (ok _ c.read-read.ensures.answer_value c.in_default.is) _ c.read-read.ensures.table_value.1)
-
-pub overflow_mul-m : goal.overflow_mul-m
-overflow_mul-m c =
-    omega (arith, few _ (ok _ c.read-read.ensures.answer_value c.in_default.is) _ c.read-read.ensures.table_value.1)
-
 -- a list is too short
 pub returns-then-out-m : goal.returns-then-out-m
 returns-then-out-m c =
@@ -82,21 +74,6 @@ returns-then-out-m c =
     record { result_value = r; out_after = l.0; beside_after = l.1 }
 
 -- both have room
-pub slice_bounds-run_events-count : goal.slice_bounds-run_events-count
-slice_bounds-run_events-count c = starts _ (ok _ c.read-read.ensures.answer_value c.in_default.is) _ c.read-read.ensures.table_value.1
-
-pub slice_bounds-run_events-start : goal.slice_bounds-run_events-start
-slice_bounds-run_events-start c = starts _ (ok _ c.read-read.ensures.answer_value c.in_default.is) _ c.read-read.ensures.table_value.1
-
-pub run_events-requires : goal.run_events-requires
-run_events-requires c =
-    let a = c.args in
-    let fine_file = ok a.file.now c.read-read.ensures.answer_value c.in_default.is in
-    let read = c.read-read.ensures.table_value.1 in
-    let h = handed a.file.now fine_file _ (c.read-read.ensures.table_value.0 ∙ table_is _ fine_file) _ _
-    (count_is _ fine_file _ read) (at_is _ fine_file _ read) a.out.now a.beside.now (room _ fine_file _ read a.out.now a.beside.now c.if-out-m.false) in
-    record { m_in_bounds = h.0; ranged = h.1.0; m_in_bounds_2 = h.1.1 }
-
 pub returns : goal.returns
 returns c =
     let a = c.args in
@@ -112,3 +89,26 @@ returns c =
       out_after = c.run_events.ensures.out_after ∙ whole.0 ∙ fills.0;
       beside_after = c.run_events.ensures.beside_after ∙ whole.1 ∙ fills.1;
     }
+
+pub overflow_add-m : goal.overflow_add-m
+overflow_add-m c =
+    omega (arith, few _ (ok _ c.read-read.ensures.answer_value c.in_default.is) _ c.read-read.ensures.table_value.1)
+
+pub overflow_mul-m : goal.overflow_mul-m
+overflow_mul-m c =
+    omega (arith, few _ (ok _ c.read-read.ensures.answer_value c.in_default.is) _ c.read-read.ensures.table_value.1)
+
+pub slice_bounds-run_events-count : goal.slice_bounds-run_events-count
+slice_bounds-run_events-count c = starts _ (ok _ c.read-read.ensures.answer_value c.in_default.is) _ c.read-read.ensures.table_value.1
+
+pub slice_bounds-run_events-start : goal.slice_bounds-run_events-start
+slice_bounds-run_events-start c = starts _ (ok _ c.read-read.ensures.answer_value c.in_default.is) _ c.read-read.ensures.table_value.1
+
+pub run_events-requires : goal.run_events-requires
+run_events-requires c =
+    let a = c.args in
+    let fine_file = ok a.file.now c.read-read.ensures.answer_value c.in_default.is in
+    let read = c.read-read.ensures.table_value.1 in
+    let h = handed a.file.now fine_file _ (c.read-read.ensures.table_value.0 ∙ table_is _ fine_file) _ _
+    (count_is _ fine_file _ read) (at_is _ fine_file _ read) a.out.now a.beside.now (room _ fine_file _ read a.out.now a.beside.now c.if-out-m.false) in
+    record { m_in_bounds = h.0; ranged = h.1.0; m_in_bounds_2 = h.1.1 }

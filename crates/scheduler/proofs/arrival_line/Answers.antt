@@ -9,10 +9,6 @@ use Rattle.engine.specs.Needs.{Bookable}
 use Rattle.engine.proofs.Loop.{sound_bookable}
 use Rattle.scheduler.proofs.arrival_line.Goals as goal
 
-pub book-answer-requires : goal.book-answer-requires
-book-answer-requires c =
-    subst⁻¹ (λ (k : Common). Bookable k c.args.table.maxima c.args.line.sums) c.common_of-common.ensures (sound_bookable c.requires)
-
 pub returns : goal.returns
 returns c =
     let a = c.args in
@@ -23,3 +19,7 @@ returns c =
     ap (λ (k : Line). outcome (arrival_paper c.book-answer.result) k) whole
     ∙ c.book-answer.ensures a.table.quanta l.deficits (spot_at l.place l.opened)
     ∙ (λ i. arrival_of (table i) (line i) a.flow a.length)
+
+pub book-answer-requires : goal.book-answer-requires
+book-answer-requires c =
+    subst⁻¹ (λ (k : Common). Bookable k c.args.table.maxima c.args.line.sums) c.common_of-common.ensures (sound_bookable c.requires)

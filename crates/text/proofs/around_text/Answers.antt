@@ -41,22 +41,6 @@ returns-then-buf-front-2 c =
     (around a.front.now a.n a.back.now) a.buf.now (omega arith) in
     record { value = f.0; buf_after = f.1 }
 
-pub put_number-end-requires : goal.put_number-end-requires
-put_number-end-requires c =
-    let a = c.args in
-    let p = c.put_bytes-at in
-    left_room (numbered a.front.now a.back.now a.buf.now a.n (omega arith) p.new.buf p.result p.ensures p.auto.buf)
-    (decimal a.n) a.back.now refl
-
-pub put_bytes-requires : goal.put_bytes-requires
-put_bytes-requires c =
-    let a = c.args in
-    let p = c.put_bytes-at in
-    let q = c.put_number-end in
-    left_fits
-    (last a.front.now a.back.now a.buf.now a.n (omega arith) p.new.buf p.result p.ensures p.auto.buf
-    q.new.buf q.result q.ensures q.auto.buf)
-
 pub returns : goal.returns
 unfolding around_within
 returns c =
@@ -73,3 +57,19 @@ returns c =
     (last u v b a.n room p.new.buf p.result p.ensures p.auto.buf q.new.buf q.result q.ensures q.auto.buf)
     v refl _ _ c.put_bytes.ensures) in
     record { value = f.0; buf_after = f.1 }
+
+pub put_number-end-requires : goal.put_number-end-requires
+put_number-end-requires c =
+    let a = c.args in
+    let p = c.put_bytes-at in
+    left_room (numbered a.front.now a.back.now a.buf.now a.n (omega arith) p.new.buf p.result p.ensures p.auto.buf)
+    (decimal a.n) a.back.now refl
+
+pub put_bytes-requires : goal.put_bytes-requires
+put_bytes-requires c =
+    let a = c.args in
+    let p = c.put_bytes-at in
+    let q = c.put_number-end in
+    left_fits
+    (last a.front.now a.back.now a.buf.now a.n (omega arith) p.new.buf p.result p.ensures p.auto.buf
+    q.new.buf q.result q.ensures q.auto.buf)

@@ -22,9 +22,6 @@ returns-then-buf-list-2 c =
     let f = unfilled (length b) (18 * length l + 21 * length w) (beside_text l w) b (omega arith) in
     record { value = f.0; buf_after = f.1 }
 
-pub put_lines-requires : goal.put_lines-requires
-put_lines-requires c = omega (arith, beside_most c.args.list.now c.args.beside.now)
-
 pub returns : goal.returns
 unfolding beside_within
 returns c =
@@ -35,3 +32,6 @@ returns c =
     let f = filled (length b) (18 * length l + 21 * length w) (beside_text l w) b p.new.buf p.result (omega arith)
     (omega (arith, beside_most l w)) p.ensures in
     record { value = f.0; buf_after = f.1 }
+
+pub put_lines-requires : goal.put_lines-requires
+put_lines-requires c = omega (arith, beside_most c.args.list.now c.args.beside.now)

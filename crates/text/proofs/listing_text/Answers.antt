@@ -12,9 +12,6 @@ returns-then-buf-list c =
     let f = unfilled (length b / 18) (length l) (listing_text l) b c.if-buf-list.true in
     record { value = f.0; buf_after = f.1 }
 
-pub put_lines-requires : goal.put_lines-requires
-put_lines-requires c = omega (arith, beside_most c.args.list.now [])
-
 pub returns : goal.returns
 unfolding listing_within
 returns c =
@@ -24,3 +21,6 @@ returns c =
     let f = filled (length b / 18) (length l) (listing_text l) b p.new.buf p.result c.if-buf-list.false
     (omega (arith, beside_most l [])) p.ensures in
     record { value = f.0; buf_after = f.1 }
+
+pub put_lines-requires : goal.put_lines-requires
+put_lines-requires c = omega (arith, beside_most c.args.list.now [])

@@ -30,18 +30,6 @@ returns-then-list-eq0 c =
     (no_number l b c.if-list-eq0.true) in
     record { value = f.0; buf_after = f.1 }
 
-pub put_number-at-requires : goal.put_number-at-requires
-put_number-at-requires c =
-    let l = c.args.list.now in
-    let b = c.args.buf.now in
-    left_room (all l b c.if-buf-list.false c.if-list-eq0.false) (decimal (get_or l 0 0)) _ (number_first l c.if-list-eq0.false)
-
-pub put_fields-requires : goal.put_fields-requires
-put_fields-requires c =
-    let n = c.put_number-at in
-    left_fits
-    (behind c.args.list.now c.args.buf.now c.if-buf-list.false c.if-list-eq0.false n.new.buf n.result n.ensures n.auto.buf)
-
 pub returns : goal.returns
 unfolding numbers_within
 returns c =
@@ -53,3 +41,15 @@ returns c =
     (left_end (behind l b c.if-buf-list.false c.if-list-eq0.false n.new.buf n.result n.ensures n.auto.buf) _ refl _ _
     c.put_fields.ensures) in
     record { value = f.0; buf_after = f.1 }
+
+pub put_number-at-requires : goal.put_number-at-requires
+put_number-at-requires c =
+    let l = c.args.list.now in
+    let b = c.args.buf.now in
+    left_room (all l b c.if-buf-list.false c.if-list-eq0.false) (decimal (get_or l 0 0)) _ (number_first l c.if-list-eq0.false)
+
+pub put_fields-requires : goal.put_fields-requires
+put_fields-requires c =
+    let n = c.put_number-at in
+    left_fits
+    (behind c.args.list.now c.args.buf.now c.if-buf-list.false c.if-list-eq0.false n.new.buf n.result n.ensures n.auto.buf)

@@ -9,6 +9,12 @@ newline : (l b b' : List ℕ) (at r : ℕ) → at + length (fields_text l) ≤ l
     length b' ≡ length b → Left b at (fields_text l) b' r (10 ∷ [])
 newline l b b' at r h p s = left_next (left_all b at (fields_text l) h) (spaced_text l) _ (fields_parts l) b' r p s
 
+pub returns : goal.returns
+returns c =
+    let p = c.put_spaced-at in
+    left_end (newline c.args.fields.now c.args.buf.now p.new.buf c.args.start p.result c.requires p.ensures p.auto.buf)
+    (10 ∷ []) refl _ _ (refl, refl)
+
 pub put_spaced-at-requires : goal.put_spaced-at-requires
 put_spaced-at-requires c =
     let l = c.args.fields.now in
@@ -23,9 +29,3 @@ pub overflow_add-result : goal.overflow_add-result
 overflow_add-result c =
     let p = c.put_spaced-at in
     omega (arith, left_fits (newline c.args.fields.now c.args.buf.now p.new.buf c.args.start p.result c.requires p.ensures p.auto.buf))
-
-pub returns : goal.returns
-returns c =
-    let p = c.put_spaced-at in
-    left_end (newline c.args.fields.now c.args.buf.now p.new.buf c.args.start p.result c.requires p.ensures p.auto.buf)
-    (10 ∷ []) refl _ _ (refl, refl)

@@ -20,6 +20,16 @@ module _ (form : Form) (letter n : ℕ) (l w b : List ℕ) (at : ℕ) (is : form
       length b' ≡ length (set b at letter) → Left b at (form_text form l w) b' r (fields_text w)
   spaced b' r p same = left_next lettered (spaced_text (take n l)) (fields_text w) refl b' r p same
 
+pub returns : goal.returns
+returns c =
+    let a = c.args in
+    let f = c.in-Line in
+    let p = c.put_spaced-end in
+    left_end
+    (spaced a.form f.letter f.count a.fields.now a.beside.now a.buf.now a.at f.is c.requires.beside_in_bounds
+    p.new.buf p.result p.ensures p.auto.buf)
+    _ refl _ _ c.put_fields.ensures
+
 pub put_spaced-end-requires : goal.put_spaced-end-requires
 put_spaced-end-requires c =
     let a = c.args in
@@ -37,13 +47,3 @@ put_fields-requires c =
     left_fits
     (spaced a.form f.letter f.count a.fields.now a.beside.now a.buf.now a.at f.is c.requires.beside_in_bounds
     p.new.buf p.result p.ensures p.auto.buf)
-
-pub returns : goal.returns
-returns c =
-    let a = c.args in
-    let f = c.in-Line in
-    let p = c.put_spaced-end in
-    left_end
-    (spaced a.form f.letter f.count a.fields.now a.beside.now a.buf.now a.at f.is c.requires.beside_in_bounds
-    p.new.buf p.result p.ensures p.auto.buf)
-    _ refl _ _ c.put_fields.ensures

@@ -22,20 +22,6 @@ module _ (l w : List ℕ) (n : ℕ) (form : Form) (is : form ≡ form_in kinds (
   put : (b b' : List ℕ) (at r : ℕ) → Put b at (form_text form (take 5 (drop 1 l)) (take n w)) b' r → Put b at (first_line l w) b' r
   put b b' at r p = in_form (sym is) (sym (beside_part (get_or l 0 0) w n many)) (take 5 (drop 1 l)) b b' at r p
 
-pub put_line-at-requires-clause-form_in_bounds : goal.put_line-at-requires-clause-form_in_bounds
-put_line-at-requires-clause-form_in_bounds c =
-    let l = c.loop-rest.rest.now in
-    let long : 5 ≤ length (drop 1 l) = omega (arith, c.loop-rest-test.true, length-drop 1 l) in
-    omega (arith, ap fields_in c.form_of.ensures, at_most_five (get_or l 0 0), length-take-le 5 (drop 1 l) long)
-
-pub put_line-at-requires-clause-beside_in_bounds : goal.put_line-at-requires-clause-beside_in_bounds
-put_line-at-requires-clause-beside_in_bounds c =
-    let o = c.loop-rest in
-    let l = o.rest.now in
-    let w = o.left.now in
-    fits l w c.beside_line-n.result c.form_of.result c.form_of.ensures c.beside_line-n.ensures o.at (length o.buf)
-    (left_room o.invariant (first_line l w) _ (six_first l w c.loop-rest-test.true))
-
 pub returns-then-kind-eq3 : goal.returns-then-kind-eq3
 returns-then-kind-eq3 c =
     let o = c.loop-rest in
@@ -60,3 +46,17 @@ pub returns : goal.returns
 returns c =
     let o = c.loop-rest in
     left_end o.invariant _ (line_none o.rest.now o.left.now c.loop-rest-test.false) _ _ (put_none o.buf o.at)
+
+pub put_line-at-requires-clause-form_in_bounds : goal.put_line-at-requires-clause-form_in_bounds
+put_line-at-requires-clause-form_in_bounds c =
+    let l = c.loop-rest.rest.now in
+    let long : 5 ≤ length (drop 1 l) = omega (arith, c.loop-rest-test.true, length-drop 1 l) in
+    omega (arith, ap fields_in c.form_of.ensures, at_most_five (get_or l 0 0), length-take-le 5 (drop 1 l) long)
+
+pub put_line-at-requires-clause-beside_in_bounds : goal.put_line-at-requires-clause-beside_in_bounds
+put_line-at-requires-clause-beside_in_bounds c =
+    let o = c.loop-rest in
+    let l = o.rest.now in
+    let w = o.left.now in
+    fits l w c.beside_line-n.result c.form_of.result c.form_of.ensures c.beside_line-n.ensures o.at (length o.buf)
+    (left_room o.invariant (first_line l w) _ (six_first l w c.loop-rest-test.true))

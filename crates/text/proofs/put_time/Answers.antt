@@ -15,6 +15,13 @@ module _ (b b' : List ℕ) (at r t : ℕ) (room : at + length (time_text t) ≤ 
   nine : r + 9 ≤ length b'
   nine = omega (arith, left_fits behind, digits_length 8 t)
 
+pub returns : goal.returns
+returns c =
+    let a = c.args in
+    let p = c.put_number-point in
+    left_end (behind a.buf.now p.new.buf a.at p.result a.time c.requires p.ensures p.auto.buf) _ refl _ _
+    (one_more p.new.buf (last_digits 10 8 a.time) _ p.result 46 _ (c.spell.ensures, omega (arith, digits_length 8 a.time)))
+
 pub put_number-point-requires : goal.put_number-point-requires
 put_number-point-requires c =
     let a = c.args in
@@ -43,10 +50,3 @@ overflow_add-result c =
     let a = c.args in
     let p = c.put_number-point in
     omega (arith, nine a.buf.now p.new.buf a.at p.result a.time c.requires p.ensures p.auto.buf)
-
-pub returns : goal.returns
-returns c =
-    let a = c.args in
-    let p = c.put_number-point in
-    left_end (behind a.buf.now p.new.buf a.at p.result a.time c.requires p.ensures p.auto.buf) _ refl _ _
-    (one_more p.new.buf (last_digits 10 8 a.time) _ p.result 46 _ (c.spell.ensures, omega (arith, digits_length 8 a.time)))

@@ -11,19 +11,6 @@ spaced : (l b₀ b b' : List ℕ) (t at r i : ℕ) → i < length l →
     Left b₀ 0 (timed_text l t) b' r (32 ∷ timed_text (drop (i + 1) l) t)
 spaced l b₀ b b' t at r i h left p same = left_next left (decimal (get_or l i 0)) _ (timed_first l t i h) b' r p same
 
-pub bounds-buf-space : goal.bounds-buf-space
-bounds-buf-space c =
-    let a = c.args in
-    let o = c.loop-i in
-    let p = c.put_number-space in
-    let l = a.list.now in
-    omega (
-      arith,
-      left_room
-          (spaced l a.buf.now o.buf p.new.buf a.time o.at p.result o.i c.loop-i-test.true o.invariant p.ensures p.auto.buf)
-          (32 ∷ []) (timed_text (drop (o.i + 1) l) a.time) refl,
-    )
-
 pub loop-i-preserved : goal.loop-i-preserved
 loop-i-preserved c =
     let a = c.args in
@@ -42,3 +29,16 @@ returns c =
     let last = left_next o.invariant (time_text a.time) _ (timed_end a.list.now a.time o.i c.loop-i-test.false) _ _ p.ensures
     p.auto.buf in
     left_end last (10 ∷ []) refl _ _ (refl, refl)
+
+pub bounds-buf-space : goal.bounds-buf-space
+bounds-buf-space c =
+    let a = c.args in
+    let o = c.loop-i in
+    let p = c.put_number-space in
+    let l = a.list.now in
+    omega (
+      arith,
+      left_room
+          (spaced l a.buf.now o.buf p.new.buf a.time o.at p.result o.i c.loop-i-test.true o.invariant p.ensures p.auto.buf)
+          (32 ∷ []) (timed_text (drop (o.i + 1) l) a.time) refl,
+    )

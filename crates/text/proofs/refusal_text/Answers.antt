@@ -12,10 +12,6 @@ returns-then-buf-lt44 c =
     let f = unfilled (length a.buf.now) 44 (refusal_text a.number a.place) a.buf.now c.if-buf-lt44.true in
     record { value = f.0; buf_after = f.1 }
 
-pub put_fields-requires : goal.put_fields-requires
-put_fields-requires c =
-    simp length-set (omega (arith, c.if-buf-lt44.false, fields_most (c.args.number ∷ c.args.place ∷ [])))
-
 pub returns : goal.returns
 unfolding refusal_within
 returns c =
@@ -26,3 +22,7 @@ returns c =
     let f = filled (length b) 44 (refusal_text a.number a.place) b p.new.buf p.result c.if-buf-lt44.false
     (omega (arith, c.if-buf-lt44.false, fields_most fields)) (one_more b (fields_text fields) _ 0 82 _ p.ensures) in
     record { value = f.0; buf_after = f.1 }
+
+pub put_fields-requires : goal.put_fields-requires
+put_fields-requires c =
+    simp length-set (omega (arith, c.if-buf-lt44.false, fields_most (c.args.number ∷ c.args.place ∷ [])))

@@ -13,9 +13,6 @@ returns-then-buf-list c =
     let f = unfilled (length b / 30) (length l + 1) (timed_text l a.time) b (omega (arith, c.if-buf-list.true)) in
     record { value = f.0; buf_after = f.1 }
 
-pub put_timed-requires : goal.put_timed-requires
-put_timed-requires c = omega (arith, timed_most c.args.list.now c.args.time)
-
 pub returns : goal.returns
 unfolding timed_within
 returns c =
@@ -26,3 +23,6 @@ returns c =
     let f = filled (length b / 30) (length l + 1) (timed_text l a.time) b p.new.buf p.result
     (omega (arith, c.if-buf-list.false)) (omega (arith, c.if-buf-list.false, timed_most l a.time)) p.ensures in
     record { value = f.0; buf_after = f.1 }
+
+pub put_timed-requires : goal.put_timed-requires
+put_timed-requires c = omega (arith, timed_most c.args.list.now c.args.time)

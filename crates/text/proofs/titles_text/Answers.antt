@@ -27,12 +27,6 @@ returns-then-buf-sizes c =
     let f = unfilled (length b / 30) (length l + 6) (titles_text l c.args.timed) b (omega arith) in
     record { value = f.0; buf_after = f.1 }
 
-pub put_later_titles-requires : goal.put_later_titles-requires
-put_later_titles-requires c =
-    let p = c.put_bytes-at in
-    left_fits
-    (behind c.args.sizes.now c.args.buf.now p.new.buf c.args.timed p.result (omega arith) p.ensures p.auto.buf)
-
 pub returns : goal.returns
 unfolding titles_within
 returns c =
@@ -45,3 +39,9 @@ returns c =
     let f = filled (length b / 30) (length l + 6) (titles_text l t) b e.new.buf e.result room
     (omega (arith, titles_most l t)) (left_end (behind l b p.new.buf t p.result room p.ensures p.auto.buf) _ refl _ _ e.ensures) in
     record { value = f.0; buf_after = f.1 }
+
+pub put_later_titles-requires : goal.put_later_titles-requires
+put_later_titles-requires c =
+    let p = c.put_bytes-at in
+    left_fits
+    (behind c.args.sizes.now c.args.buf.now p.new.buf c.args.timed p.result (omega arith) p.ensures p.auto.buf)

@@ -82,9 +82,6 @@ returns-then-size c =
     let n = none _ FileLength c.no_tables.ensures (refused_1 _ c.if-size.true) in
     record { answer_value = n.0; layout_value = n.1 }
 
-pub le4-requires : goal.le4-requires
-le4-requires c = omega (arith, long c.args.file.now c.if-size.false)
-
 pub returns-then-le4-size : goal.returns-then-le4-size
 returns-then-le4-size c =
     let n = none _ FileLength c.no_tables-then-le4-size.ensures (refused_2 _ c.if-size.false (λ e. c.if-le4-size.true (c.le4.ensures.0 ∙ e))) in
@@ -95,9 +92,6 @@ returns-then-le4 c =
     let n = none _ OverheadRange c.no_tables-then-le4.ensures
     (refused_3 _ c.if-size.false (sym c.le4.ensures.0 ∙ c.if-le4-size.false) (omega (arith, c.le4-2.ensures.0, c.if-le4.true))) in
     record { answer_value = n.0; layout_value = n.1 }
-
-pub layout_of-layout-requires : goal.layout_of-layout-requires
-layout_of-layout-requires c = long c.args.file.now c.if-size.false
 
 pub returns-then-flows : goal.returns-then-flows
 returns-then-flows c =
@@ -125,3 +119,9 @@ returns c =
     let ok = left_6 _ c.if-size.false (sym c.le4.ensures.0 ∙ c.if-le4-size.false) (omega (arith, c.le4-2.ensures.0, c.if-le4.false))
     _ c.layout_of-layout.ensures.0 c.if-flows.false c.if-events-gt-MOST_EVENTS.false c.tables_ok.ensures c.if-not-tables_ok.false in
     record { answer_value = sym ok; layout_value = c.layout_of-layout.ensures.0 ∙ sym (layout_is c.args.file.now ok) }
+
+pub le4-requires : goal.le4-requires
+le4-requires c = omega (arith, long c.args.file.now c.if-size.false)
+
+pub layout_of-layout-requires : goal.layout_of-layout-requires
+layout_of-layout-requires c = long c.args.file.now c.if-size.false

@@ -31,24 +31,12 @@ module _ (b : List ℕ) (layout : Layout) (r : (header_answer b ≡ fine) × (la
       ≡ ticks_answer 0 0 (events_in b)
   order = λ j. ticks_answer 0 0 (events_from (part_is b layout.events.at (event_offset b) at_is j) 0 (count_is j))
 
-pub flows_of-made-requires : goal.flows_of-made-requires
-flows_of-made-requires c = (laid_fine _ c.requires.0, ap (λ (x : Layout). x.flows) c.requires.1)
-
 pub returns-in-Refused : goal.returns-in-Refused
 returns-in-Refused c =
     let told = sym (ap verdict_paper c.in-Refused.is) ∙ c.flows_of-made.ensures.answer_value in
     let g = flows_refused c.args.file.now c.requires.0 c.in-Refused.why _ told in
     let r = c.refused.ensures in
     record { answer_value = r.0 ∙ g.answers; table_value = (r.1 ∙ g.tables, r.2 ∙ g.events) }
-
-pub slice_bounds-ticks-count : goal.slice_bounds-ticks-count
-slice_bounds-ticks-count c = starts _ _ c.requires
-
-pub slice_bounds-ticks-start : goal.slice_bounds-ticks-start
-slice_bounds-ticks-start c = starts _ _ c.requires
-
-pub ticks-order-requires : goal.ticks-order-requires
-ticks-order-requires c = (part_long _ _ c.requires, omega (arith, count_is _ _ c.requires, (laid_fine _ c.requires.0).events_few))
 
 pub returns-in-Refused-order : goal.returns-in-Refused-order
 returns-in-Refused-order c =
@@ -67,3 +55,15 @@ returns c =
       answer_value = g.answers;
       table_value = (c.flows_of-made.ensures.table_value ∙ g.tables, ap (λ (x : Layout). x.events) c.requires.1 ∙ g.events);
     }
+
+pub flows_of-made-requires : goal.flows_of-made-requires
+flows_of-made-requires c = (laid_fine _ c.requires.0, ap (λ (x : Layout). x.flows) c.requires.1)
+
+pub slice_bounds-ticks-count : goal.slice_bounds-ticks-count
+slice_bounds-ticks-count c = starts _ _ c.requires
+
+pub slice_bounds-ticks-start : goal.slice_bounds-ticks-start
+slice_bounds-ticks-start c = starts _ _ c.requires
+
+pub ticks-order-requires : goal.ticks-order-requires
+ticks-order-requires c = (part_long _ _ c.requires, omega (arith, count_is _ _ c.requires, (laid_fine _ c.requires.0).events_few))

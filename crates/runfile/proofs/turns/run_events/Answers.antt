@@ -24,9 +24,6 @@ loop-e-init c =
     rw (c.no_lines-y.ensures, c.closed_at-spot.ensures)
     (inside_first _ c.args.t.now c.args.m c.args.out.now c.args.beside.now (ranged _ c.args.table c.common_of-common.ensures c.requires.ranged.0))
 
-pub book-answer-requires : goal.book-answer-requires
-book-answer-requires c = sound_bookable c.loop-e.invariant.sound
-
 -- ---- an event is booked
 pub loop-e-preserved-then-has_come : goal.loop-e-preserved-then-has_come
 loop-e-preserved-then-has_come c =
@@ -86,6 +83,27 @@ loop-e-smaller-in_default c =
     p.result.answer _ p.ensures c.in_default.not-Sent) c.if-m-at.false)
 
 -- ---- a pick sends
+pub loop-e-preserved : goal.loop-e-preserved
+loop-e-preserved c =
+    let a = c.loop-e in
+    let ends_at = ap (λ (x : ℕ). a.now + x) (c.usize_of_u32.ensures.0 ∙ c.charge_of.ensures) in
+    sends (here c.requires.m_in_bounds_2.0 c.requires.m_in_bounds_2.1 a.invariant)
+    (not_come c.args.t.now c.args.m a.now a.at c.has_come.ensures c.if-has_come.false) _ _ c.pick_in-p.ensures
+    _ _ _ _ (ap pick_paper c.in-Sent.is) _ ends_at
+    _ c.send_line-y.ensures.out_after _ c.waiting_at-in-loop-e.ensures _ c.put_beside.ensures _ c.send_line-y.ensures.value
+
+pub loop-e-smaller : goal.loop-e-smaller
+loop-e-smaller c =
+    let a = c.loop-e in
+    let ends_at = ap (λ (x : ℕ). a.now + x) (c.usize_of_u32.ensures.0 ∙ c.charge_of.ensures) in
+    sent_less (here c.requires.m_in_bounds_2.0 c.requires.m_in_bounds_2.1 a.invariant)
+    (not_come c.args.t.now c.args.m a.now a.at c.has_come.ensures c.if-has_come.false) _ _ c.pick_in-p.ensures
+    _ _ _ _ (ap pick_paper c.in-Sent.is) _ ends_at
+
+-- ---- what the calls on the way ask
+pub book-answer-requires : goal.book-answer-requires
+book-answer-requires c = sound_bookable c.loop-e.invariant.sound
+
 pub put_beside-requires : goal.put_beside-requires
 put_beside-requires c =
     let a = c.loop-e in
@@ -104,20 +122,3 @@ overflow_cast-len c =
           (not_come c.args.t.now c.args.m a.now a.at c.has_come.ensures c.if-has_come.false) _ _ c.pick_in-p.ensures
           _ _ _ _ (ap pick_paper c.in-Sent.is),
     )
-
-pub loop-e-preserved : goal.loop-e-preserved
-loop-e-preserved c =
-    let a = c.loop-e in
-    let ends_at = ap (λ (x : ℕ). a.now + x) (c.usize_of_u32.ensures.0 ∙ c.charge_of.ensures) in
-    sends (here c.requires.m_in_bounds_2.0 c.requires.m_in_bounds_2.1 a.invariant)
-    (not_come c.args.t.now c.args.m a.now a.at c.has_come.ensures c.if-has_come.false) _ _ c.pick_in-p.ensures
-    _ _ _ _ (ap pick_paper c.in-Sent.is) _ ends_at
-    _ c.send_line-y.ensures.out_after _ c.waiting_at-in-loop-e.ensures _ c.put_beside.ensures _ c.send_line-y.ensures.value
-
-pub loop-e-smaller : goal.loop-e-smaller
-loop-e-smaller c =
-    let a = c.loop-e in
-    let ends_at = ap (λ (x : ℕ). a.now + x) (c.usize_of_u32.ensures.0 ∙ c.charge_of.ensures) in
-    sent_less (here c.requires.m_in_bounds_2.0 c.requires.m_in_bounds_2.1 a.invariant)
-    (not_come c.args.t.now c.args.m a.now a.at c.has_come.ensures c.if-has_come.false) _ _ c.pick_in-p.ensures
-    _ _ _ _ (ap pick_paper c.in-Sent.is) _ ends_at

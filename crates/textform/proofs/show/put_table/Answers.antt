@@ -32,16 +32,6 @@ module _ (T : Table) (b begun : List ℕ) (at : ℕ) (room : overhead_room + flo
   same : length begun ≡ length b
   same = ap length put.0 ∙ length-sets b 0 front
 
-pub put_flows-requires : goal.put_flows-requires
-put_flows-requires c =
-    let T = c.args.table in
-    let b = c.args.buf.now in
-    let begun = c.overhead_line-at.new.buf in
-    let at = c.overhead_line-at.result in
-    let p = put T b begun at c.requires.1 c.overhead_line-at.ensures in
-    let s = same T b begun at c.requires.1 c.overhead_line-at.ensures in
-    (c.requires.0, omega (arith, p.1, s, overhead_most T.overhead, c.requires.1, behind_length begun at))
-
 pub returns : goal.returns
 returns c =
     let T = c.args.table in
@@ -52,3 +42,13 @@ returns c =
     (fits T b begun at c.requires.1 c.overhead_line-at.ensures)
     (put T b begun at c.requires.1 c.overhead_line-at.ensures)
     c.put_flows.ensures
+
+pub put_flows-requires : goal.put_flows-requires
+put_flows-requires c =
+    let T = c.args.table in
+    let b = c.args.buf.now in
+    let begun = c.overhead_line-at.new.buf in
+    let at = c.overhead_line-at.result in
+    let p = put T b begun at c.requires.1 c.overhead_line-at.ensures in
+    let s = same T b begun at c.requires.1 c.overhead_line-at.ensures in
+    (c.requires.0, omega (arith, p.1, s, overhead_most T.overhead, c.requires.1, behind_length begun at))

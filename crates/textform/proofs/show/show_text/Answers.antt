@@ -92,6 +92,13 @@ module _
         given _ _ buf _ _ (shown_lines file ok T p held.0 held.1 ∙ shown_fits file (length buf) room)
         (both_filled table_lines event_lines buf begun part size more both_fit put second)
 
+pub returns : goal.returns
+returns c =
+    let r = c.read-read in
+    let g = whole c.args.file.now c.args.buf.now r.result.answer r.result.table r.result.events c.if-buf-lt-SHOWN_ROOM.false
+    c.in_default.is r.ensures.answer_value r.ensures.table_value _ _ c.put_table-size.ensures _ _ c.put_events.ensures in
+    record { value = g.0; buf_after = g.1.0; prefix_len = g.1.1 }
+
 pub put_table-size-requires : goal.put_table-size-requires
 put_table-size-requires c =
     let r = c.read-read in
@@ -115,10 +122,3 @@ put_events-requires c =
     let r = c.read-read in
     events_in_bounds c.args.file.now c.args.buf.now r.result.answer r.result.table r.result.events c.if-buf-lt-SHOWN_ROOM.false
     c.in_default.is r.ensures.answer_value r.ensures.table_value _ _ c.put_table-size.ensures
-
-pub returns : goal.returns
-returns c =
-    let r = c.read-read in
-    let g = whole c.args.file.now c.args.buf.now r.result.answer r.result.table r.result.events c.if-buf-lt-SHOWN_ROOM.false
-    c.in_default.is r.ensures.answer_value r.ensures.table_value _ _ c.put_table-size.ensures _ _ c.put_events.ensures in
-    record { value = g.0; buf_after = g.1.0; prefix_len = g.1.1 }
