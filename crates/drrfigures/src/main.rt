@@ -8,10 +8,11 @@
 // so many bits a second. With a wrong argument it says what is wrong, and prints nothing.
 #![tactic(auto)]
 
-ghost use Rattle.std.specs.Prelude.{◌+◌, ◌≤◌, ◌≡◌};
+ghost use Rattle.std.specs.Prelude.{◌+◌, ◌≤◌, ◌≡◌, length};
 ghost use Rattle.io.specs.Counts.{IsPrefixLen};
 
 use answers::Dress;
+use std::env::{Env, FillError};
 use text::Word;
 
 // The most bytes that can be asked for, and the highest rate.
@@ -117,10 +118,32 @@ fn meaning(word: &[u8], due: bool) -> Said {
     bytes_meant(word)
 }
 
+// How many arguments the program was started with, its own name among them.
+fn arg_count(rt: &impl Env) -> usize {
+    let mut start = [0u8; 1];
+    for i in 0..usize::MAX {
+        if let Err(FillError::NotPresent) = rt.arg(i, &mut start) {
+            return i;
+        }
+    }
+    usize::MAX
+}
+
+// Puts argument i at the start of a lent buffer, and answers how many bytes it has; 0 where there is none,
+// or it has more than the buffer.
+fn arg(rt: &impl Env, i: usize, word: &mut [u8]) -> usize
+    ensures { result ≤ length word.new }
+{
+    match rt.arg(i, word) {
+        Ok(n) => n,
+        Err(_) => 0,
+    }
+}
+
 // Argument i, by whether a rate is due. No number and no option has more than 32 bytes.
-fn meaning_at(i: usize, due: bool) -> Said {
+fn meaning_at(rt: &impl Env, i: usize, due: bool) -> Said {
     let mut word = [0u8; 32];
-    let n = os::arg(i, &mut word);
+    let n = arg(rt, i, &mut word);
     if n == 0 {
         io::write_all(
             2,
@@ -219,15 +242,15 @@ fn asked_of(sizes: [u32; 17], heard: Heard) -> Asked
 }
 
 // What the arguments ask for.
-fn asked_for() -> Asked
+fn asked_for(rt: &impl Env) -> Asked
     ensures { IsPrefixLen result.count result.sizes }
 {
     let mut sizes = [0u32; 17];
     let mut heard = told(0, b' ', false, 0, false);
-    let words = os::arg_count();
+    let words = arg_count(rt);
     let mut i: usize = 1;
     while i < words {
-        let said = meaning_at(i, heard.due);
+        let said = meaning_at(rt, i, heard.due);
         let count = heard.count;
         // past the last number this is no number, and is written over or left out
         sizes[count] = number_in(said);
@@ -244,8 +267,8 @@ fn asked_for() -> Asked
     asked_of(sizes, heard)
 }
 
-fn main() {
-    let asked = asked_for();
+fn main(rt: HostRuntime) {
+    let asked = asked_for(&rt);
     if asked.count == 0 {
         return;
     }

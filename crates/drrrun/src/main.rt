@@ -4,7 +4,10 @@
 // wrong, and prints nothing.
 #![tactic(auto)]
 
+ghost use Rattle.std.specs.Prelude.{◌≤◌, length};
 ghost use Rattle.io.specs.Counts.{IsPrefixLen};
+
+use std::env::{Env, FillError};
 
 // What the arguments ask for.
 #[derive(Clone, Copy)]
@@ -14,14 +17,36 @@ enum Asked {
     Nothing,
 }
 
-fn asked_for() -> Asked {
-    let words = os::arg_count();
+// How many arguments the program was started with, its own name among them.
+fn arg_count(rt: &impl Env) -> usize {
+    let mut start = [0u8; 1];
+    for i in 0..usize::MAX {
+        if let Err(FillError::NotPresent) = rt.arg(i, &mut start) {
+            return i;
+        }
+    }
+    usize::MAX
+}
+
+// Puts argument i at the start of a lent buffer, and answers how many bytes it has; 0 where there is none,
+// or it has more than the buffer.
+fn arg(rt: &impl Env, i: usize, word: &mut [u8]) -> usize
+    ensures { result ≤ length word.new }
+{
+    match rt.arg(i, word) {
+        Ok(n) => n,
+        Err(_) => 0,
+    }
+}
+
+fn asked_for(rt: &impl Env) -> Asked {
+    let words = arg_count(rt);
     if words < 2 {
         return Asked::Listing;
     }
     // an option has no more than 32 bytes
     let mut word = [0u8; 32];
-    let n = os::arg(1, &mut word);
+    let n = arg(rt, 1, &mut word);
     if (words == 2) & text::same(&word[..n], b"--waiting") {
         return Asked::Waiting;
     }
@@ -43,8 +68,8 @@ fn printed(asked: Asked, file: &[u8], text: &mut [u8]) -> usize
     }
 }
 
-fn main() {
-    let asked = asked_for();
+fn main(rt: HostRuntime) {
+    let asked = asked_for(&rt);
     if let Asked::Nothing = asked {
         return;
     }

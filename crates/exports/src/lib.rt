@@ -1,6 +1,6 @@
-// What programs in other languages can call, by C's calling convention: a state crosses by value, laid
-// out as C lays it out, an answer as a struct with a name for each number (specs/Told.antt), a lent slice
-// as its address and its length. Any numbers may stand in a state, and its bool is 0 or 1.
+// What programs in other languages can call, through exports_c: a state crosses by value, laid out as C
+// lays it out, an answer as a struct with a name for each number (specs/Told.antt). Any numbers may stand
+// in a state, and its bool is 0 or 1.
 #![tactic(auto)]
 
 ghost use Rattle.std.specs.Prelude.{◌≡◌, [], length};
@@ -143,8 +143,7 @@ fn figure_told(a: Figure) -> FigureResult
 }
 
 // Setup of the first `count` records of the list, or of all seventeen, and the terms.
-#[unsafe(no_mangle)]
-pub extern "C" fn wikulambag_setup(list: FlowList, terms: Terms) -> SetupResult
+pub fn wikulambag_setup(list: FlowList, terms: Terms) -> SetupResult
     ensures { result ≡ setup_told (setup_reply (records_in list) terms) }
 {
     let made = scheduler::flows::setup_of(list, terms);
@@ -159,16 +158,14 @@ pub extern "C" fn wikulambag_setup(list: FlowList, terms: Terms) -> SetupResult
 }
 
 // Whether the state is sound.
-#[unsafe(no_mangle)]
-pub extern "C" fn wikulambag_sound(s: State) -> bool
+pub fn wikulambag_sound(s: State) -> bool
     ensures { result ≡ sound_state s }
 {
     scheduler::sound(s)
 }
 
 // A packet of `length` bytes arrives for `flow`.
-#[unsafe(no_mangle)]
-pub extern "C" fn wikulambag_arrival(s: State, flow: usize, length: u32) -> ArrivalResult
+pub fn wikulambag_arrival(s: State, flow: usize, length: u32) -> ArrivalResult
     ensures { result ≡ arrival_told (arrival_reply s flow length) }
 {
     let a = scheduler::arrival(s, flow, length);
@@ -178,8 +175,7 @@ pub extern "C" fn wikulambag_arrival(s: State, flow: usize, length: u32) -> Arri
 }
 
 // The next packet is picked.
-#[unsafe(no_mangle)]
-pub extern "C" fn wikulambag_pick(s: State) -> PickResult
+pub fn wikulambag_pick(s: State) -> PickResult
     ensures { result ≡ pick_told (pick_reply s) }
 {
     let p = scheduler::pick(s);
@@ -189,8 +185,7 @@ pub extern "C" fn wikulambag_pick(s: State) -> PickResult
 }
 
 // What the flow is owed of this many bytes.
-#[unsafe(no_mangle)]
-pub extern "C" fn wikulambag_owed(s: State, flow: usize, bytes: u32) -> FigureResult
+pub fn wikulambag_owed(s: State, flow: usize, bytes: u32) -> FigureResult
     ensures { result ≡ figure_told (owed_answer s flow bytes) }
 {
     let f = figures::owed(s, flow, bytes);
@@ -198,8 +193,7 @@ pub extern "C" fn wikulambag_owed(s: State, flow: usize, bytes: u32) -> FigureRe
 }
 
 // The least number of bytes of which the flow is owed one.
-#[unsafe(no_mangle)]
-pub extern "C" fn wikulambag_wait(s: State, flow: usize) -> FigureResult
+pub fn wikulambag_wait(s: State, flow: usize) -> FigureResult
     ensures { result ≡ figure_told (wait_answer s flow) }
 {
     let f = figures::wait(s, flow);
@@ -207,8 +201,7 @@ pub extern "C" fn wikulambag_wait(s: State, flow: usize) -> FigureResult
 }
 
 // C of the flow.
-#[unsafe(no_mangle)]
-pub extern "C" fn wikulambag_lag(s: State, flow: usize) -> FigureResult
+pub fn wikulambag_lag(s: State, flow: usize) -> FigureResult
     ensures { result ≡ figure_told (lag_answer s flow) }
 {
     let f = figures::lag(s, flow);
@@ -216,8 +209,7 @@ pub extern "C" fn wikulambag_lag(s: State, flow: usize) -> FigureResult
 }
 
 // How many bytes wait in the flow.
-#[unsafe(no_mangle)]
-pub extern "C" fn wikulambag_waiting_bytes(s: State, flow: usize) -> FigureResult
+pub fn wikulambag_waiting_bytes(s: State, flow: usize) -> FigureResult
     ensures { result ≡ figure_told (waiting_answer s flow) }
 {
     let f = figures::waiting_bytes(s, flow);
@@ -225,8 +217,7 @@ pub extern "C" fn wikulambag_waiting_bytes(s: State, flow: usize) -> FigureResul
 }
 
 // Runs the file; its listing stands at the start of the lent list, or the refusal is told.
-#[unsafe(no_mangle)]
-pub extern "C" fn wikulambag_run(file: &[u8], out: &mut [u64]) -> RunResult
+pub fn wikulambag_run(file: &[u8], out: &mut [u64]) -> RunResult
     ensures value { result ≡ run_told (run_answer file.now (length out.old)) }
     ensures out_after { out.new ≡ filled file.now out.old }
 {

@@ -6,8 +6,6 @@ use mathlib.Core.Logic.{⊎_elim}
 use Prim.Native.Nat.{ℕ, zero, suc, ◌+◌, ◌*◌, ◌-◌, ◌≤◌, ◌<◌}
 use native.Mathlib.Nat.{sub-zero}
 use native.Mathlib.Omega.{arith}
-use types.Run.{OneOf, miss}
-use denote.Enum.Declared.{tag_of}
 use borrow.Author.Tests.{le-leb, lt-leb, leb-true, leb-false, lt-ltb, le-ltb, ltb-true, eq-eqb}
 use lib.Dec.{leb, ltb, eqb}
 use lib.ListN.{length, drop, get_or-eq_default}
@@ -21,7 +19,6 @@ use Rattle.drr.specs.Answers.{number_of, Answer, idle, sent_as, length_in, pick_
 use Rattle.drr.specs.Arrival.{arrival_of}
 use Rattle.drr.specs.Computed.{pick_of}
 use Rattle.drr.proofs.Bools.{apart, by_test, below?}
-use Rattle.drr.specs.contracts.PickAnswer as pick_answer
 use Rattle.drr.proofs.Papers.{number_some, sent_not_idle}
 use Rattle.drr.proofs.Tables.{fresh_sound}
 use Rattle.drr.proofs.Calls.{pick_fine}
@@ -504,12 +501,34 @@ module _ (H : Here) where
 
 -- an answer of the pick that is not Sent is idle: a sound line's pick is not refused
 pub not_sent : (T : Table) (l : Line) (a : PickAnswer) (l' : Line) → outcome (pick_paper a) l' ≡ pick_of T l →
-    OneOf (0 ∷ 2 ∷ []) (tag_of pick_answer.the_type a) → outcome idle l' ≡ pick_of T l
+    ((f len d w : ℕ) → a ≡ Sent f len d w → ⊥) → outcome idle l' ≡ pick_of T l
 not_sent T l Idle l' e o = e
-not_sent T l (Sent f len d w) l' e o = absurd (miss (0 ∷ 2 ∷ []) 1 tt o)
+not_sent T l (Sent f len d w) l' e o = absurd (o f len d w refl)
 not_sent T l (Refused why) l' e o =
     absurd (let z : number_of why ≡ 0 = (ap (λ (z : Outcome). z.answer.refusal) e ∙ pick_fine T l) in
     apart (eq-eqb (number_of why) 0 z) (number_some why))
+
+-- a run before one of its turns, of what its loop keeps
+abbrev pub here : {T : Table} {t : List ℕ} {m : ℕ} {o₀ L b₀ W : List ℕ} {now at : ℕ} {y : Tally} {l : Line} {o b : List ℕ} →
+    6 * (m + 1) ≤ length o₀ → m ≤ length b₀ → Inside T t m o₀ L b₀ W now at y l o b → Here
+here {T = T} {t = t} {m = m} {o₀ = o₀} {L = L} {b₀ = b₀} {W = W} {now = now} {at = at} {y = y} {l = l} {o = o} {b = b} room room_beside inside = record {
+  table = T;
+  file = t;
+  events = m;
+  before = o₀;
+  whole = L;
+  room = room;
+  before_beside = b₀;
+  whole_beside = W;
+  room_beside = room_beside;
+  tick = now;
+  passed = at;
+  count = y;
+  line = l;
+  list = o;
+  beside = b;
+  inside = inside;
+}
 
 -- the start: nothing is written, and all is to come
 pub inside_first : (T : Table) (t : List ℕ) (m : ℕ) (o b : List ℕ) → Ranged T →

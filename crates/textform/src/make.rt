@@ -1,12 +1,12 @@
 // A text made into a run file: any bytes at all, and the first fault by its line.
 ghost use Rattle.std.specs.Prelude.{◌≡◌, cond, ◌+◌, ◌≤◌, length, drop};
 ghost use Rattle.std.proofs.lemmas.List.Edits.{sets};
-ghost use Rattle.textform.specs.Grammar.{lines_of, words_of, first, field as field_of};
+ghost use Rattle.textform.specs.Grammar.{lines_of, words_of, first, field};
 ghost use Rattle.textform.specs.Grammar.{nothing_more, overhead_item, flow_item, event_item, item_in, item_of};
 ghost use Rattle.textform.specs.declared.Item.TheVariants.{OverheadOf, FlowOf, EventOf};
-ghost use Rattle.textform.specs.Made.{flow_of, event_of, bytes2, bytes4, flow_bytes, event_bytes, header_bytes, newlines as newlinesIn};
+ghost use Rattle.textform.specs.Made.{flow_of, event_of, bytes2, bytes4, flow_bytes, event_bytes, header_bytes, newlines};
 ghost use Rattle.textform.specs.Made.{no_records, fault, drafted, most_text, made_in, made_of, Whole};
-ghost use Rattle.textform.specs.Needs.{of_sort, leading as leadingOf, Next, ReadAt, Fits, Stepped, SteppedAside, Finished};
+ghost use Rattle.textform.specs.Needs.{of_sort, leading, Next, ReadAt, Fits, Stepped, SteppedAside, Finished};
 
 use super::{Item, Made, Making, Want};
 use text::Word;
@@ -67,7 +67,7 @@ fn of_sort(sort: Sort, b: u8) -> bool
 
 // How many bytes of a sort stand at the start.
 fn leading(sort: Sort, t: &[u8]) -> usize
-    ensures { (result ≡ leadingOf sort t.now) × (result ≤ length t.now) }
+    ensures { (result ≡ leading sort t.now) × (result ≤ length t.now) }
 {
     let mut i: usize = 0;
     while i < t.len() {
@@ -91,7 +91,7 @@ fn next_word(t: &[u8], at: usize) -> Token
 
 // The number that a word says, where it is in range.
 fn field(word: &[u8], least: u64, most: u64) -> Word
-    ensures { result ≡ field_of least most word.now }
+    ensures { result ≡ field least most word.now }
 {
     let said = text::word_of(word);
     match said {
@@ -364,7 +364,7 @@ fn one_if(test: bool) -> usize
 }
 
 fn newlines(t: &[u8]) -> usize
-    ensures { (result ≡ newlinesIn t.now) × (result ≤ length t.now) }
+    ensures { (result ≡ newlines t.now) × (result ≤ length t.now) }
 {
     let mut n: usize = 0;
     let mut i: usize = 0;

@@ -17,10 +17,6 @@ returns-then-not-head_ok c =
 pub flows-init : goal.flows-init
 flows-init c = (lit≤ tt, refl, all_none _)
 
--- past the head's test the overhead is in range
-pub charge_of-requires : goal.charge_of-requires
-charge_of-requires c = head_overhead c.args.common c.args.spot (sym c.head_ok.ensures ∙ c.if-not-head_ok.false)
-
 pub loop-k-init : goal.loop-k-init
 loop-k-init c = (lit≤ tt, c.flows.invariant.1, all_none _, refl, lit≤ tt)
 

@@ -1,0 +1,13 @@
+-- The lines of the first flows stand in the buffer, and those of the others are left.
+use Rattle.std.proofs.Common.{◌*◌, ◌-◌, ◌≤◌}
+use Rattle.text.proofs.Texts.{Left}
+use Rattle.answers.specs.Printed.{flow_lines, row_room}
+use Rattle.answers.proofs.put_flows.Given as goal
+
+abbrev pub invariant-loop-flow : goal.invariant-loop-flow
+invariant-loop-flow l =
+    (l.at ≤ row_room * l.flow)
+    × Left l.fn.buf 0 (flow_lines l.s.table l.sizes l.rate 0 l.n) l.buf l.at (flow_lines l.s.table l.sizes l.rate l.flow (l.n - l.flow))
+
+abbrev pub decreases-loop-flow : goal.decreases-loop-flow
+decreases-loop-flow l = l.n - l.flow
