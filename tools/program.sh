@@ -171,7 +171,7 @@ build() (
     crates=$(crates_of "$1" | wc -l)
     echo "$name: $2; building it ($((crates)) crates, in some minutes if none is proved yet)" >&2
     # rt runs a program that it has built: with no input, and what it prints goes the way of the rest
-    { cd "$top/crates/$1" && rt "$verb" 2>&1 </dev/null; echo "rt: ended $?"; } | tee "$top/target/build.log" |
+    { cd "$top/crates/$1" && rt "$verb"; echo "rt: ended $?"; } 2>&1 </dev/null | tee "$top/target/build.log" |
         show_build "$((crates))" && [ -f "$top/$made" ] && touch -r "$lock" "$top/$made" ||
         stop 2 "$(called "$1") could not be built ($top/target/build.log has more)"
 )
