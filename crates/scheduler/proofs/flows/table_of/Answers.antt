@@ -29,10 +29,10 @@ pub returns-in-Refused : goal.returns-in-Refused
 returns-in-Refused c =
     let list = c.args.list in
     let terms = c.args.terms in
-    let fits = le-ltb most_overhead terms.overhead c.if-terms-gt-MOST_OVERHEAD.false in
+    let low = le-ltb most_overhead terms.overhead c.if-terms-gt-MOST_OVERHEAD.false in
     let long : length list.records ≡ 17 = search rules in
     let few = counted list.records list.count _ long c.if-count.false in
-    let g = gives_bad (records_in list) terms fits few c.in-Refused.why c.in-Refused.place c.in-Refused.ensures in
+    let g = gives_bad (records_in list) terms low few c.in-Refused.why c.in-Refused.place c.in-Refused.ensures in
     let made = c.refused-in-Refused.ensures in
     (made.0 ∙ g.answers, made.1 ∙ g.makes)
 
@@ -40,8 +40,8 @@ pub returns : goal.returns
 returns c =
     let list = c.args.list in
     let terms = c.args.terms in
-    let fits = le-ltb most_overhead terms.overhead c.if-terms-gt-MOST_OVERHEAD.false in
+    let within = le-ltb most_overhead terms.overhead c.if-terms-gt-MOST_OVERHEAD.false in
     let long : length list.records ≡ 17 = search rules in
     let few = counted list.records list.count _ long c.if-count.false in
-    let g = gives_table (records_in list) terms fits few c.in_default.ensures in
+    let g = gives_table (records_in list) terms within few c.in_default.ensures in
     (g.answers, c.filled-table.ensures ∙ g.makes)
