@@ -82,7 +82,7 @@ use Rattle.text.proofs.part_by.Met as part_by_met
 use Rattle.text.proofs.word_of.Statement as word_of
 use Rattle.text.proofs.word_of.Met as word_of_met
 use Rattle.text.proofs.same.Statement as same
-use Rattle.text.proofs.same.Met as same_Met
+use Rattle.text.proofs.same.Met as same_met
 use Rattle.text.proofs.around_text.Statement as around_text
 use Rattle.text.proofs.around_text.Met as around_text_met
 use Rattle.answers.proofs.overhead_line.Statement as overhead_line
@@ -248,7 +248,7 @@ pub word_of_meets : {M : Type 1} → word_of.statement M
 word_of_meets = word_of_met.met
 
 pub same_meets : {M : Type 1} → same.statement M
-same_meets = same_Met.met
+same_meets = same_met.met
 
 pub around_text_meets : {M : Type 1} → around_text.statement M
 around_text_meets = around_text_met.met

@@ -11,7 +11,7 @@ ghost use Rattle.std.specs.Prelude.{◌≡◌, ◌++◌, ◌+◌, ◌*◌, ◌-�
 ghost use Rattle.drr.specs.Answers.{Answer};
 ghost use Rattle.drr.specs.Limits.{most_flows};
 ghost use Rattle.drr.specs.Facts.{SoundState};
-ghost use Rattle.drr.specs.Figures.{total, lag as lagOf, owed as owedOf, wait as waitOf};
+ghost use Rattle.drr.specs.Figures.{total, lag, owed, wait};
 ghost use Rattle.figures.specs.Answers.{figure_paper, guard_paper, asked_answer, owed_answer, wait_answer, lag_answer, time_answer};
 ghost use Rattle.figures.specs.Answers.{waiting_answer, value_of, all_figures, figures_within};
 ghost use Rattle.figures.specs.Needs.{Known, measures_of, Limited, lag_from};
@@ -109,7 +109,7 @@ fn lag_from(t: Measures) -> u64
 // C of a flow of the table.
 fn lag_in(table: Table, flow: usize) -> u64
     requires { Known table flow }
-    ensures { result ≡ lagOf table flow }
+    ensures { result ≡ lag table flow }
 {
     let t = measures_of(table, flow);
     lag_from(t)
@@ -118,7 +118,7 @@ fn lag_in(table: Table, flow: usize) -> u64
 // Q × S - C by F, rounded up; nothing is owed while Q × S is at most C.
 fn owed_in(table: Table, flow: usize, bytes: u32) -> u64
     requires { Known table flow }
-    ensures { result ≡ owedOf table flow bytes }
+    ensures { result ≡ owed table flow bytes }
 {
     let t = measures_of(table, flow);
     let lag = lag_from(t);
@@ -129,7 +129,7 @@ fn owed_in(table: Table, flow: usize, bytes: u32) -> u64
 // "C / Q rounded down, plus 1": that is C + 1 by Q, rounded up.
 fn wait_in(table: Table, flow: usize) -> u64
     requires { Known table flow }
-    ensures { result ≡ waitOf table flow }
+    ensures { result ≡ wait table flow }
 {
     let t = measures_of(table, flow);
     let lag = lag_from(t);
