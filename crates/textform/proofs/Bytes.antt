@@ -5,14 +5,17 @@ use Prim.Native.Nat.{ℕ, zero, suc, ◌+◌, ◌*◌, ◌/◌, ◌%◌, ◌≤�
 use native.Mathlib.Nat.{add-zero}
 use native.Mathlib.Numerals.{add-one}
 use native.Mathlib.Omega.{arith}
-use lib.ListN.{length, get_or, drop, length-append}
-use lib.Seq.{drop-cons, drop-drop, get_or-drop}
+use lib.ListN.{length, get_or, take, drop, length-append}
+use lib.Seq.{drop-cons, drop-append_seam, drop-drop, get_or-drop}
 use Rattle.drr.specs.declared.FlowRecord.{FlowRecord}
 use Rattle.runfile.specs.File.{Event, le2, le4, header_size, flows_from, event_at, events_from}
 use Rattle.textform.specs.Made.{bytes2, bytes4, flow_bytes, event_bytes, each, header_bytes, record_bytes, file_of}
 use Rattle.textform.specs.Shown.{Bytes}
 
 -- ---- how many bytes there are
+pub header_length : (n m o : ℕ) → length (header_bytes n m o) ≡ header_size
+header_length n m o = refl
+
 pub flows_size : (xs : List FlowRecord) → length (each flow_bytes xs) ≡ 8 * length xs
 flows_size [] = refl
 flows_size (x ∷ xs) = omega (arith, flows_size xs)
@@ -55,6 +58,12 @@ module _ (b r : List ℕ) (i n : ℕ) where
 
   pub read4_at : drop i b ≡ bytes4 n ++ r → le4 b i ≡ n
   read4_at e = ap (le4 b) (sym (add-zero i)) ∙ sym (le4_drop b i 0) ∙ ap (λ (l : List ℕ). le4 l 0) e ∙ read4 n r
+
+pub read2_behind : (p r : List ℕ) (n : ℕ) → le2 (p ++ (bytes2 n ++ r)) (length p) ≡ n
+read2_behind p r n = read2_at (p ++ (bytes2 n ++ r)) r (length p) n (drop-append_seam p (bytes2 n ++ r))
+
+pub read4_behind : (p r : List ℕ) (n : ℕ) → le4 (p ++ (bytes4 n ++ r)) (length p) ≡ n
+read4_behind p r n = read4_at (p ++ (bytes4 n ++ r)) r (length p) n (drop-append_seam p (bytes4 n ++ r))
 
 -- ---- records are read back from their bytes, from number i of a table on
 pub flows_read : (xs : List FlowRecord) (t r : List ℕ) (i : ℕ) → drop (8 * i) t ≡ each flow_bytes xs ++ r → flows_from t i (length xs) ≡ xs
@@ -104,6 +113,9 @@ module _ (b : List ℕ) (low : Bytes b) (i : ℕ) where
   pub low2 : le2 b i < 65536
   low2 = omega (arith, low i, low (i + 1))
 
+  pub take2 : i + 2 ≤ length b → bytes2 (le2 b i) ≡ take 2 (drop i b)
+  take2 h = ap (take 2) (again2 h)
+
 module _ (b : List ℕ) (low : Bytes b) (i : ℕ) where
   pub again4 : i + 4 ≤ length b → bytes4 (le4 b i) ++ drop (i + 4) b ≡ drop i b
   again4 h =
@@ -116,6 +128,9 @@ module _ (b : List ℕ) (low : Bytes b) (i : ℕ) where
 
   pub low4 : le4 b i < 4294967296
   low4 = omega (arith, low2 b low i, low2 b low (i + 2))
+
+  pub take4 : i + 4 ≤ length b → bytes4 (le4 b i) ≡ take 4 (drop i b)
+  take4 h = ap (take 4) (again4 h)
 
 -- .. and with those of the records read there
 module _ (t : List ℕ) (low : Bytes t) where
