@@ -1,17 +1,23 @@
--- The measures of a flow's figures and how far they go, and the figures from its measures.
+-- The measures of a flow's figures and how far they go, the figures from its measures, and what a figure learns of its guard.
 use mathlib.Core.Path.{◌≡◌, sym, ap, ◌∙◌, subst⁻¹}
 use Prim.Native.Nat.{ℕ, ◌+◌, ◌*◌, ◌-◌, ◌/◌, ◌≤◌, ◌<◌}
 use native.Mathlib.Nat.{add-div_right, mul-le-mul, mul-le-mul_left, mul-le-mul_right, div-lt_iff_lt-mul}
 use native.Mathlib.Omega.{arith}
 use borrow.Author.Tests.{eq-eqb, ne_eqb, le-leb, leb-true}
 use lib.Dec.{leb}
+use Rattle.drr.specs.declared.Refusal.{Refusal}
 use Rattle.drr.specs.declared.Table.{Table}
+use Rattle.drr.specs.declared.State.{State}
 use Rattle.drr.specs.Limits.{most_flows, most_quantum, most_maximum, most_charge, most_quanta, most_charges}
 use Rattle.drr.specs.State.{quantum_of, maximum_of, maximum_charge}
+use Rattle.drr.specs.Answers.{Answer, number_of}
 use Rattle.drr.specs.Figures.{total, all_quanta, all_charges, lag, Least, owed, wait}
 use Rattle.drr.proofs.Sums.{total_at, total_most, total_add, total_each}
 use Rattle.drr.proofs.Figures.{quanta_some, owed_formula, wait_formula, least_one, least_of, least_from_lem, one_beyond}
+use Rattle.figures.specs.declared.Guard.{Guard}
+use Rattle.figures.specs.declared.Guard.TheVariants.{Passed, Refused}
 use Rattle.figures.specs.declared.Measures.{Measures}
+use Rattle.figures.specs.Answers.{figure_refused, guard_paper, asked_answer}
 use Rattle.figures.specs.Needs.{Known, measures_of, Limited, most_wait, lag_from}
 use Rattle.figures.specs.Time.{slowest, wait_time}
 
@@ -106,3 +112,11 @@ module _ {T : Table} {i : ℕ} (k : Known T i) where
   pub time_none : (rate : ℕ) → rate ≡ 0 → 0 ≡ wait_time T i rate
   unfolding wait_time
   time_none rate e = rw (eq-eqb rate 0 e)
+
+-- ---- a figure past its guard g
+module _ (s : State) (flow : ℕ) {g : Guard} (told : (figure : Answer) → guard_paper g figure ≡ asked_answer s flow figure) where
+  pub when_refused : {why : Refusal} → g ≡ Refused why → (figure : Answer) → figure_refused (number_of why) ≡ asked_answer s flow figure
+  when_refused e figure = ap (λ (x : Guard). guard_paper x figure) (sym e) ∙ told figure
+
+  pub when_passed : g ≡ Passed → {a figure : Answer} → a ≡ figure → a ≡ asked_answer s flow figure
+  when_passed e {a} {figure} is = is ∙ ap (λ (x : Guard). guard_paper x figure) (sym e) ∙ told figure

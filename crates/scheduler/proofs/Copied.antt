@@ -1,24 +1,29 @@
 -- The copying that `flows::setup` does, on lists and numbers alone: after i turns `Copied` is `copied_at` of the list, the terms and i.
 use mathlib.Core.Path.{◌≡◌, sym, ap, ◌∙◌}
-use mathlib.Core.List.{List}
+use mathlib.Core.Bool.{not, ◌||◌}
+use mathlib.Core.List.{List, [], ◌∷◌}
 use mathlib.Core.Logic.{⊎_elim}
 use Prim.Native.Nat.{ℕ, ◌+◌, ◌≤◌, ◌<◌, min}
 use native.Mathlib.Omega.{arith}
 use native.Mathlib.Nat.{zero-add}
-use lib.Dec.{ltb}
+use lib.Dec.{eqb, ltb}
 use lib.ListN.{length, get_or, replicate, take, length-take}
 use lib.Seq.{paste, take-paste, take_all}
+use Rattle.drr.specs.declared.Refusal.TheVariants.{FlowCount, QuantumRange, MaximumRange, OverheadRange}
 use Rattle.drr.specs.declared.FlowRecord.{FlowRecord}
 use Rattle.drr.specs.declared.Terms.{Terms}
 use Rattle.scheduler.specs.declared.flows.Copied.{Copied}
+use Rattle.drr.specs.declared.Made.{Made}
 use Rattle.drr.specs.declared.Table.{Table}
 use Rattle.drr.specs.Limits.{most_flows, most_overhead}
+use Rattle.drr.specs.Sound.{quantumb, maximumb}
 use Rattle.drr.specs.State.{fresh_state}
-use Rattle.drr.specs.Answers.{Answer, Reply, reply}
-use Rattle.drr.specs.Setup.{setup_reply}
+use Rattle.drr.specs.Answers.{Answer, verdict_paper, Reply, reply}
+use Rattle.drr.specs.Setup.{flows_answer, setup_answer, setup_table, setup_reply}
 use Rattle.scheduler.specs.Copying.{put_of}
-use Rattle.drr.proofs.Bools.{below?, dec}
+use Rattle.drr.proofs.Bools.{below?, by_test, dec}
 use Rattle.drr.proofs.Copies.{copy_turn}
+use Rattle.drr.proofs.Papers.{verdict_from, verdict_back, fine_back, refused_back}
 use Rattle.drr.proofs.Tables.{none}
 use Rattle.scheduler.proofs.Setups.{Gives, gives_over, too_many}
 
@@ -31,7 +36,7 @@ abbrev pub copied_at : List FlowRecord → Terms → ℕ → Copied
 copied_at xs t i = record { records = paste (replicate 17 none) 0 xs i; at = i; todo = min (length xs) 17; terms = t }
 
 -- ---- a turn
-put_next : (xs : List FlowRecord) (t : Terms) (i : ℕ) → i < 17 → i < length xs →
+pub put_next : (xs : List FlowRecord) (t : Terms) (i : ℕ) → i < 17 → i < length xs →
     put_of (copied_at xs t i) (get_or xs i none) ≡ copied_at xs t (i + 1)
 put_next xs t i few l = simp (copy_turn (replicate 17 none) xs i none few l)
 
@@ -45,7 +50,7 @@ long_same xs ys t more more' = ⊎_elim
     (λ fits. gives_same xs ys t (too_many xs t fits more) (too_many ys t fits more'))
     (dec (ltb most_overhead t.overhead))
 
-copied_all : (xs : List FlowRecord) (t : Terms) (i : ℕ) → i ≡ min (length xs) 17 →
+pub copied_all : (xs : List FlowRecord) (t : Terms) (i : ℕ) → i ≡ min (length xs) 17 →
     reply_on t (take (copied_at xs t i).at (copied_at xs t i).records) ≡ reply_on t xs
 copied_all xs t i is = ap (reply_on t) first ∙ whole
   where
@@ -75,3 +80,31 @@ pub copied_done : (xs : List FlowRecord) (t : Terms) (c : Copied) → c.todo ≤
 copied_done xs t c all most is =
     let todo : c.todo ≡ min (length xs) 17 = ap (λ (x : Copied). x.todo) is in
     ap (λ (x : Copied). reply_on x.terms (take x.at x.records)) is ∙ copied_all xs t c.at (omega arith)
+
+-- ---- the value that a paper answer and a state make
+abbrev pub made_from : Reply → Made
+made_from z = record { answer = verdict_from z.answer; state = z.state }
+
+pub made_is : (r : Made) (z : Reply) → reply (verdict_paper r.answer) r.state ≡ z → r ≡ made_from z
+made_is r z e =
+    let back = sym (verdict_back r.answer) ∙ ap (λ (y : Reply). verdict_from y.answer) e in
+    λ i. record { answer = back i; state = (e i).state }
+
+abbrev ComesBack : Answer → Type 0
+ComesBack a = verdict_paper (verdict_from a) ≡ a
+
+flows_back : (f : ℕ) (xs : List FlowRecord) → ComesBack (flows_answer f xs)
+flows_back f [] = fine_back
+flows_back f (x ∷ xs) =
+    by_test ComesBack (not (quantumb x.quantum)) (λ _. refused_back QuantumRange f) (λ _.
+    by_test ComesBack (not (maximumb x.maximum)) (λ _. refused_back MaximumRange f) (λ _. flows_back (f + 1) xs))
+
+answer_back : (xs : List FlowRecord) (t : Terms) → ComesBack (setup_answer xs t)
+unfolding setup_answer
+answer_back xs t =
+    by_test ComesBack (ltb most_overhead t.overhead) (λ _. refused_back OverheadRange 0) (λ _.
+    by_test ComesBack (eqb (length xs) 0 || ltb most_flows (length xs)) (λ _. refused_back FlowCount 0) (λ _. flows_back 0 xs))
+
+pub made_meets : (t : Terms) (xs : List FlowRecord) →
+    reply (verdict_paper (made_from (reply_on t xs)).answer) (made_from (reply_on t xs)).state ≡ reply_on t xs
+made_meets t xs = ap (λ (a : Answer). reply a (fresh_state (setup_table xs t))) (answer_back xs t)

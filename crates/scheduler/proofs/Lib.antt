@@ -1,3 +1,4 @@
 -- Laws that several functions' proofs cite.
 pub mod Setups
 pub mod Copied
+pub mod Plain

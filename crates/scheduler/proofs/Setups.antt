@@ -1,27 +1,57 @@
--- Setup on a list of records: the cells of its table, and what the three ways of the code give.
+-- Setup on a list of records: its answer flow by flow, the cells of its table, and what the three ways of the code give.
 use mathlib.Core.Path.{◌≡◌, refl, sym, ap, ◌∙◌}
 use mathlib.Core.Bool.{Bool, true, false, ◌||◌}
 use mathlib.Core.List.{List, [], ◌∷◌}
 use mathlib.Core.Logic.{⊎_elim}
-use Prim.Native.Nat.{ℕ, zero, suc, ◌+◌, ◌<◌}
+use Prim.Native.Nat.{ℕ, zero, suc, ◌+◌, ◌≤◌, ◌<◌}
 use native.Mathlib.Nat.{not-suc-le-zero}
 use native.Mathlib.Numerals.{add-one}
 use native.Mathlib.Omega.{arith}
 use borrow.Author.Tests.{lt-ltb}
 use lib.Dec.{eqb, ltb}
-use lib.ListN.{length, get_or, set, take, length-take}
-use lib.Seq.{length-take-le}
+use lib.ListN.{length, get_or, set, take, drop, length-take}
+use lib.Seq.{length-take-le, get_or-take, drop-cons}
 use Rattle.drr.specs.declared.FlowRecord.{FlowRecord}
 use Rattle.drr.specs.declared.Table.{Table}
 use Rattle.drr.specs.declared.Refusal.{Refusal}
 use Rattle.drr.specs.declared.Terms.{Terms}
 use Rattle.drr.specs.Limits.{most_flows, most_overhead}
-use Rattle.drr.specs.State.{no_flows}
+use Rattle.drr.specs.State.{common, table_of, no_flows}
+use Rattle.drr.specs.Sound.{quantumb, maximumb}
 use Rattle.drr.specs.Answers.{Answer, number_of, fine, refused_at}
 use Rattle.drr.specs.Setup.{cells, table_for, flows_answer, setup_answer, setup_table}
 use Rattle.drr.proofs.Bools.{below?, or_inr}
+use Rattle.drr.proofs.Copies.{drop_past}
 use Rattle.drr.proofs.Papers.{number_some}
 use Rattle.drr.proofs.Tables.{none}
+
+-- ---- the first c of the records, from flow f on
+module _ (rs : List FlowRecord) (c f : ℕ) where
+  abbrev rest : List FlowRecord
+  rest = drop f (take c rs)
+
+  pub no_more : c ≤ f → flows_answer f rest ≡ fine
+  no_more h = ap (flows_answer f) (drop_past (take c rs) f (omega (arith, length-take c rs)))
+
+  module _ (inside : c ≤ length rs) (more : f < c) where
+    abbrev here : FlowRecord
+    here = get_or rs f none
+
+    one_more : rest ≡ here ∷ drop (f + 1) (take c rs)
+    one_more =
+        drop-cons (take c rs) f none (omega (arith, length-take-le c rs inside))
+        ∙ ap (λ (x : FlowRecord). x ∷ drop (suc f) (take c rs)) (get_or-take c rs f none more)
+        ∙ ap (λ (k : ℕ). here ∷ drop k (take c rs)) (sym (add-one f))
+
+    pub bad_quantum : quantumb here.quantum ≡ false → flows_answer f rest ≡ refused_at 6 f
+    bad_quantum h = rw (one_more, h)
+
+    module _ (good : quantumb here.quantum ≡ true) where
+      pub bad_maximum : maximumb here.maximum ≡ false → flows_answer f rest ≡ refused_at 7 f
+      bad_maximum h = rw (one_more, good, h)
+
+      pub flow_fine : maximumb here.maximum ≡ true → flows_answer f rest ≡ flows_answer (f + 1) (drop (f + 1) (take c rs))
+      flow_fine h = rw (one_more, good, h)
 
 -- ---- the cells of the table, one record more
 cells_next : (p : FlowRecord → ℕ) (w i : ℕ) (xs : List FlowRecord) → i < length xs →
@@ -36,6 +66,11 @@ pub cells_more : (p : FlowRecord → ℕ) (xs : List FlowRecord) (i : ℕ) (cs :
 cells_more p xs i cs is l =
     ap (λ (k : List ℕ). set k i (p (get_or xs i none))) is ∙ cells_next p 16 i xs l
     ∙ ap (λ (k : ℕ). cells p 16 (take k xs)) (sym (add-one i))
+
+pub table_filled : (xs : List FlowRecord) (c : ℕ) (qs ms : List ℕ) → c ≤ length xs →
+    qs ≡ cells (λ r. r.quantum) 16 (take c xs) → ms ≡ cells (λ r. r.maximum) 16 (take c xs) →
+    (terms : Terms) → table_of (common c terms.overhead) qs ms ≡ table_for (take c xs) terms
+table_filled xs c qs ms inside q m terms = rw (q, m, length-take-le c xs inside)
 
 -- ---- an answer and a table are setup's
 pub record Gives (xs : List FlowRecord) (terms : Terms) (a : Answer) (T : Table) : Type 0 where

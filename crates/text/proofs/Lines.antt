@@ -6,7 +6,7 @@ use Prim.Native.Nat.{ℕ, ◌+◌, ◌*◌, ◌-◌, ◌≤◌, ◌<◌, max}
 use native.Mathlib.Omega.{arith}
 use borrow.Author.Tests.{eq-eqb, ne_eqb, lt-ltb, le-ltb}
 use lib.Dec.{eqb, ltb}
-use lib.ListN.{length, get_or, take, drop, length-append, length-take, length-drop}
+use lib.ListN.{length, get_or, take, drop, length-append, length-take, length-drop, drop_of_length-le}
 use lib.Seq.{take_all}
 use Rattle.text.specs.declared.Form.{Form}
 use Rattle.text.specs.declared.Form.TheVariants.{Line, NoLine}
@@ -82,9 +82,23 @@ pub at_most_five : (kind : ℕ) → fields_in (form_in kinds kind) ≤ 5
 unfolding kinds
 at_most_five kind = within_most kinds kind
 
+-- a kind that is none of a table's, as the last arm of a `match` has it: the facts of the arms before it, one behind the other
+abbrev pub NoneOf : List (ℕ × Form) → ℕ → Type 0 → Type 0
+NoneOf [] kind P = P
+NoneOf (entry ∷ more) kind P = NoneOf more kind (P × (kind ≡ entry.0 → ⊥))
+
+pub no_form : (table : List (ℕ × Form)) (kind : ℕ) (P : Type 0) → NoneOf table kind P → P × (NoLine ≡ form_in table kind)
+no_form [] kind P p = (p, refl)
+no_form (entry ∷ more) kind P p =
+    let q = no_form more kind (P × (kind ≡ entry.0 → ⊥)) p in
+    (q.0.0, rw (ne_eqb kind entry.0 q.0.1) q.1)
+
 -- ---- field after field
 pub spaced_first : (l : List ℕ) (i : ℕ) → i < length l → spaced_text (drop i l) ≡ field_text (get_or l i 0) ++ spaced_text (drop (i + 1) l)
 spaced_first l i h = ap spaced_text (drop_first l i h)
+
+pub spaced_end : (l : List ℕ) (i : ℕ) → length l ≤ i → spaced_text (drop i l) ≡ []
+spaced_end l i h = ap spaced_text (drop_of_length-le l h)
 
 pub fields_two : (u v : List ℕ) → fields_text (u ++ v) ≡ spaced_text u ++ fields_text v
 fields_two [] v = refl
@@ -113,8 +127,20 @@ beside_drop [] = refl
 beside_drop (x ∷ xs) = refl
 
 module _ (k : ℕ) (w : List ℕ) where
+  pub beside_three : k ≡ 3 → 0 ≡ length (beside_line k w)
+  beside_three e = rw (eq-eqb k 3 e)
+
   beside_other : (k ≡ 3 → ⊥) → length (beside_line k w) ≡ length (take 1 w)
   beside_other other = rw (ne_eqb k 3 other)
+
+  pub beside_few : length (beside_line k w) ≤ 1
+  beside_few = omega (arith, unless_most (eqb k 3) (take 1 w), length-take 1 w)
+
+  pub beside_none : length w ≡ 0 → 0 ≡ length (beside_line k w)
+  beside_none e = omega (arith, beside_left k w, e)
+
+  pub beside_one : (k ≡ 3 → ⊥) → (length w ≡ 0 → ⊥) → 1 ≡ length (beside_line k w)
+  beside_one other some = omega (arith, beside_other other, length-take 1 w, some)
 
   pub beside_part : (n : ℕ) → n ≡ length (beside_line k w) → take n w ≡ beside_line k w
   beside_part n e = ap (λ (i : ℕ). take i w) e ∙ beside_by (eqb k 3) w

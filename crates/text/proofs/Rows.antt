@@ -1,7 +1,7 @@
 -- The rows of the figures: numbers with a time behind them, titles, and another byte in place of the space.
 use mathlib.Core.Path.{◌≡◌, refl, sym, ap, ◌∙◌}
 use mathlib.Core.Bool.{Bool, true, false, cond}
-use mathlib.Core.List.{List, [], ◌∷◌, ◌++◌}
+use mathlib.Core.List.{List, [], ◌∷◌, ◌++◌, append-nil}
 use Prim.Native.Nat.{ℕ, suc, ◌+◌, ◌*◌, ◌/◌, ◌≤◌, ◌<◌}
 use native.Mathlib.Nat.{zero-add, add-zero}
 use native.Mathlib.Numerals.{add-one}
@@ -9,7 +9,7 @@ use native.Mathlib.Omega.{arith}
 use borrow.Author.Tests.{eqb-true}
 use lib.Dec.{eqb}
 use lib.ListN.{length, get_or, set, take, drop, length-append, length-map, drop_of_length-le, get_or-map}
-use lib.Seq.{paste-suc, length-take-le, get_or-append-add, get_or-drop}
+use lib.Seq.{paste-suc, take_all, length-take-le, get_or-append-add, get_or-drop}
 use Rattle.io.specs.Digits.{last_digits}
 use Rattle.text.specs.Text.{decimal, rest_text, time_text, timed_text, owed_title, last_title, later_titles, titles_text}
 use Rattle.text.specs.Text.{parted_byte, parted}
@@ -76,6 +76,9 @@ pub later_first : (l : List ℕ) (timed : Bool) (i : ℕ) → i < length l →
     later (drop i l) timed ≡ (32 ∷ owed_title (get_or l i 0)) ++ later (drop (i + 1) l) timed
 later_first l timed i h = ap (λ (k : List ℕ). later k timed) (drop_first l i h)
 
+pub later_end : (l : List ℕ) (timed : Bool) (i : ℕ) → length l ≤ i → later (drop i l) timed ≡ rest_text (last_title timed)
+later_end l timed i h = ap (λ (k : List ℕ). later k timed) (drop_of_length-le l h)
+
 -- ---- a text with another byte for the space
 space_kept : (x : ℕ) (t : Bool) → eqb x 32 ≡ t → cond t 32 x ≡ x
 space_kept x true e = sym (eqb-true x 32 e)
@@ -86,7 +89,7 @@ pub parted_space : (text : List ℕ) → parted 32 text ≡ text
 parted_space [] = refl
 parted_space (x ∷ xs) = λ i. space_kept x (eqb x 32) refl i ∷ parted_space xs i
 
--- a turn of its loop
+-- a turn of its loop, and the end
 module _ (p : ℕ) (b : List ℕ) where
   pub part_here : (k : ℕ) → k < length b → get_or (take k (parted p b) ++ drop k b) k 0 ≡ get_or b k 0
   part_here k h =
@@ -106,3 +109,8 @@ module _ (p : ℕ) (b : List ℕ) where
       ∙ paste-suc b 0 u k (parted_byte p 0) (omega arith) (omega (arith, length-map b (parted_byte p)))
       ∙ ap (λ (i : ℕ). take (suc k) u ++ drop i b) (zero-add (suc k))
       ∙ ap (λ (i : ℕ). take i u ++ drop i b) (sym (add-one k))
+
+  pub part_end : (k : ℕ) → length b ≤ k → take k (parted p b) ++ drop k b ≡ parted p b
+  part_end k h =
+      let u : List ℕ = parted p b in
+      (λ i. take_all k u (omega (arith, length-map b (parted_byte p))) i ++ drop_of_length-le b h i) ∙ append-nil u

@@ -6,7 +6,7 @@ use Prim.Native.Nat.{ℕ, zero, suc, ◌+◌, ◌-◌, ◌/◌, ◌%◌, ◌^◌
 use native.Mathlib.Nat.{add-zero, mod-lt, pow-succ'}
 use native.Mathlib.Numerals.{add-one}
 use native.Mathlib.Omega.{arith}
-use borrow.Author.Tests.{lt-ltb, le-ltb, ne_eqb, eqb-true, eqb-false}
+use borrow.Author.Tests.{lt-ltb, le-ltb, eq-eqb, ne_eqb, eqb-true, eqb-false}
 use lib.ListN.{length, get_or, set, drop, length-append}
 use lib.Dec.{eqb, ltb}
 use lib.Seq.{sets, sets-eq, set_comm, drop-cons, length-take-le}
@@ -23,6 +23,10 @@ pub places_first : (n : ℕ) → 1 + further 19 (n / 10) ≡ places n
 unfolding places
 places_first n = omega arith
 
+pub no_further : (f rest : ℕ) → rest ≡ 0 → further f rest ≡ 0
+no_further zero rest e = refl
+no_further (suc f) rest e = rw (eq-eqb rest 0 e)
+
 one_further : (f rest : ℕ) → (rest ≡ 0 → ⊥) → further (suc f) rest ≡ suc (further f (rest / 10))
 one_further f rest ne = rw (ne_eqb rest 0 ne)
 
@@ -31,6 +35,12 @@ places_step p k rest h ne e =
     let j : ℕ = 20 - (k + 1) in
     let e1 : 20 - k ≡ suc j = omega arith in
     let e2 : further (20 - k) rest ≡ suc (further j (rest / 10)) = ap (λ (f : ℕ). further f rest) e1 ∙ one_further j rest ne in
+    omega (arith, e2, e)
+
+pub places_last : (p k rest : ℕ) → k ≤ 20 → 20 ≤ k → k + further (20 - k) rest ≡ p → k ≡ p
+places_last p k rest h g e =
+    let e1 : 20 - k ≡ 0 = omega arith in
+    let e2 : further (20 - k) rest ≡ 0 = ap (λ (f : ℕ). further f rest) e1 in
     omega (arith, e2, e)
 
 pub digits_length : (k n : ℕ) → length (last_digits 10 k n) ≡ k
@@ -98,6 +108,11 @@ digit_turn b at i rest h =
     ∙ sets_two b u (x ∷ []) at
     ∙ ap (λ (y : ℕ). sets b at (u ++ (y ∷ []))) g
     ∙ ap (λ (k : ℕ). sets b at (last_digits 10 k rest)) e
+
+pub digits_done : (b b' : List ℕ) (at i rest : ℕ) → i ≤ 0 → sets b at (last_digits 10 i rest) ≡ b' → b ≡ b'
+digits_done b b' at i rest h e =
+    let z : 0 ≡ i = omega arith in
+    ap (λ (x : ℕ). sets b at (last_digits 10 x rest)) z ∙ e
 
 -- ---- a text put part by part: what is left to put gives the whole
 pub record Left (b₀ : List ℕ) (at₀ : ℕ) (whole b : List ℕ) (at : ℕ) (rest : List ℕ) : Type 0 where

@@ -6,7 +6,7 @@ use mathlib.Core.List.{List, [], ◌∷◌, ◌++◌, append-nil, append_assoc}
 use Prim.Native.Nat.{ℕ, suc, ◌+◌, ◌*◌, ◌≤◌, ◌<◌}
 use native.Mathlib.Omega.{arith}
 use native.Mathlib.Numerals.{add-one}
-use borrow.Author.Tests.{lt-ltb, le-ltb, ne_eqb}
+use borrow.Author.Tests.{lt-ltb, le-ltb, eq-eqb, ne_eqb}
 use lib.Dec.{eqb}
 use lib.ListN.{length, take, drop, replicate, length-replicate}
 use lib.Seq.{sets}
@@ -29,8 +29,15 @@ abbrev pub zeros : List ℕ
 zeros = replicate most_made 0
 
 -- ---- the end of a text
+ends_none : (line : ℕ) (d : Draft) → length d.flows ≡ 0 → fault line want.FlowsFirst ≡ drafted line d []
+ends_none line d e = sym (rw (eq-eqb (length d.flows) 0 e))
+
 ends_made : (line : ℕ) (d : Draft) → (length d.flows ≡ 0 → ⊥) → made d ≡ drafted line d []
 ends_made line d e = sym (rw (ne_eqb (length d.flows) 0 e))
+
+pub no_flow : (c : Progress) (line : ℕ) (b : List ℕ) (r : Made) → c.flows ≡ 0 → r ≡ made_in (fault line want.FlowsFirst) →
+    Finished c line b r
+no_flow c line b r e is d k held = is ∙ ap made_in (ends_none line d (omega (arith, e, k.flows_are)))
 
 pub whole : (c : Progress) (line : ℕ) (b b' : List ℕ) → Fits c b → (c.flows ≡ 0 → ⊥) →
     b' ≡ sets b 0 (header_bytes c.flows c.events c.overhead) →

@@ -45,6 +45,12 @@ module _
   pub both_filled : Filled (u ++ v) b (joined begun r part) (r + size)
   both_filled = filled 0 0 (u ++ v) b (joined begun r part) (r + size) (omega arith) whole_fits put
 
+  pub both_length : length (joined begun r part) ≡ length b
+  both_length = ap length put.0 ∙ length-sets b 0 (u ++ v)
+
+  pub both_short : r + size ≤ length b
+  both_short = omega (arith, put.1, whole_fits)
+
 -- a text that stands at the start of a buffer was put there
 pub as_put : (u b begun : List ℕ) (r : ℕ) → length u ≤ length b → Filled u b begun r → Put b 0 u begun r
 as_put u b begun r room p =
@@ -75,6 +81,12 @@ module _
 
   pub line_filled : Filled (head ++ numbers_text list) b (joined (sets b 0 head) k part) (k + size)
   line_filled = both_filled head (numbers_text list) b (sets b 0 head) part k size fits begins numbers
+
+  pub line_length : length (joined (sets b 0 head) k part) ≡ length b
+  line_length = both_length head (numbers_text list) b (sets b 0 head) part k size fits begins numbers
+
+  pub line_short : k + size ≤ length b
+  line_short = both_short head (numbers_text list) b (sets b 0 head) part k size fits begins numbers
 
 -- ---- line after line: k lines from number i on, none of them longer than `most`
 module _

@@ -3,16 +3,19 @@ use mathlib.Core.Path.{◌≡◌, refl, sym, ap, ◌∙◌}
 use mathlib.Core.Bool.{Bool, true, false, cond}
 use mathlib.Core.Logic.{⊎_elim}
 use mathlib.Core.List.{List, [], ◌∷◌, ◌++◌, append-nil, append_assoc}
-use Prim.Native.Nat.{ℕ, suc, ◌+◌, ◌-◌, ◌≤◌}
+use Prim.Native.Nat.{ℕ, suc, ◌+◌, ◌-◌, ◌≤◌, ◌<◌}
 use native.Mathlib.Nat.{suc-ne-zero}
 use native.Mathlib.Omega.{arith}
-use lib.ListN.{length, take, drop, length-drop}
-use lib.Seq.{drop-drop, length-take-le}
+use native.Mathlib.Numerals.{add-one}
+use lib.Dec.{eqb}
+use lib.ListN.{length, get_or, take, drop, drop_of_length-le, length-drop}
+use lib.Seq.{drop-cons, drop-drop, length-take-le}
 use Rattle.drr.proofs.Bools.{dec}
 use Rattle.textform.specs.declared.make.Sort.{Sort}
 use Rattle.textform.specs.declared.make.Sort.TheVariants.{Blank, Solid}
 use Rattle.textform.specs.declared.make.Token.{Token}
 use Rattle.textform.specs.Grammar.{blankb, words_from, words_of, first, others}
+use Rattle.textform.specs.Made.{newlines}
 use Rattle.textform.specs.Needs.{of_sort, leading, Next}
 
 most_by : (t : Bool) (a n : ℕ) → a ≤ n → cond t (suc a) 0 ≤ suc n
@@ -22,6 +25,35 @@ most_by false a n h = omega arith
 pub leading_most : (s : Sort) (t : List ℕ) → leading s t ≤ length t
 leading_most s [] = omega arith
 leading_most s (b ∷ bs) = most_by (of_sort s b) (leading s bs) (length bs) (leading_most s bs)
+
+-- at a byte, where those before it are of the sort
+pub record At (s : Sort) (t : List ℕ) (i : ℕ) : Type 0 where
+  pub inside : i < length t
+  pub counted : i + leading s (drop i t) ≡ leading s t
+
+module _ {s : Sort} {t : List ℕ} {i : ℕ} (p : At s t i) where
+  abbrev b : ℕ
+  b = get_or t i 0
+
+  abbrev later : List ℕ
+  later = drop (i + 1) t
+
+  here : (x : Bool) → of_sort s b ≡ x → i + cond x (suc (leading s later)) 0 ≡ leading s t
+  here x e =
+      ap (λ (y : Bool). i + cond y (suc (leading s later)) 0) (sym e)
+      ∙ ap (λ (r : List ℕ). i + leading s r) (sym (drop-cons t i 0 p.inside ∙ ap (λ (k : ℕ). b ∷ drop k t) (sym (add-one i))))
+      ∙ p.counted
+
+  pub one_more : of_sort s b ≡ true → i + 1 + leading s later ≡ leading s t
+  one_more e = omega (arith, here true e)
+
+  pub ends_here : of_sort s b ≡ false → i ≡ leading s t
+  ends_here e = omega (arith, here false e)
+
+pub all_of_sort : (s : Sort) (t : List ℕ) (i : ℕ) → length t ≤ i → i + leading s (drop i t) ≡ leading s t → i ≡ leading s t
+all_of_sort s t i h e =
+    let n : leading s (drop i t) ≡ 0 = ap (leading s) (drop_of_length-le t h) in
+    omega (arith, n, e)
 
 -- ---- the words of a line
 blank_first : (x : ℕ) (r : List ℕ) → blankb x ≡ true → words_of (x ∷ r) ≡ words_of r
@@ -99,3 +131,24 @@ next_word t at a n h f e =
 pub word_size : {t : List ℕ} {at : ℕ} {k : Token} → Next t at k → length (first (words_of (drop at t))) ≡ k.to - k.from
 word_size {t} {at} {k} p =
     sym (ap length p.word) ∙ length-take-le (k.to - k.from) (drop k.from t) (omega (arith, p.inside, length-drop k.from t))
+
+-- ---- newlines counted
+turn_by : (t : Bool) (m : ℕ) → cond t (m + 1) m ≡ m + cond t 1 0
+turn_by true m = omega arith
+turn_by false m = omega arith
+
+pub newline_turn : (t : List ℕ) (n i one : ℕ) → i < length t → n + newlines (drop i t) ≡ newlines t → one ≡ cond
+    (eqb (get_or t i 0) 10) 1 0 →
+    n + one + newlines (drop (i + 1) t) ≡ newlines t
+newline_turn t n i one h e is =
+    let later : List ℕ = drop (i + 1) t in
+    let x : ℕ = get_or t i 0 in
+    let now : newlines (drop i t) ≡ newlines later + one =
+    ap newlines (drop-cons t i 0 h ∙ ap (λ (k : ℕ). x ∷ drop k t) (sym (add-one i)))
+    ∙ turn_by (eqb x 10) (newlines later) ∙ ap (λ (k : ℕ). newlines later + k) (sym is) in
+    omega (arith, now, e)
+
+pub newlines_end : (t : List ℕ) (n i : ℕ) → length t ≤ i → n + newlines (drop i t) ≡ newlines t → n ≡ newlines t
+newlines_end t n i h e =
+    let none : newlines (drop i t) ≡ 0 = ap newlines (drop_of_length-le t h) in
+    omega (arith, none, e)
