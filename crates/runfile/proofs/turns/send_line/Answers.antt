@@ -1,6 +1,10 @@
-use Rattle.std.proofs.Common.{◌+◌, [], ◌∷◌, ◌∙◌}
+use Rattle.std.proofs.Common.{refl, ◌+◌, [], ◌∷◌, ◌∙◌}
 use Rattle.runfile.specs.Listing.{written}
 use Rattle.runfile.proofs.turns.send_line.Goals as goal
+
+-- the count has the line's end as its last tick
+pub returns-clause-value : goal.returns-clause-value
+returns-clause-value c = refl
 
 pub returns-clause-out_after : goal.returns-clause-out_after
 returns-clause-out_after c =

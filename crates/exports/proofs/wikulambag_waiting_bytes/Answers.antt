@@ -1,0 +1,6 @@
+use Rattle.std.proofs.Common.{ap, ◌∙◌}
+use Rattle.exports.specs.Told.{figure_told}
+use Rattle.exports.proofs.wikulambag_waiting_bytes.Goals as goal
+
+pub returns : goal.returns
+returns c = c.figure_told.ensures ∙ ap figure_told c.waiting_bytes-f.ensures
