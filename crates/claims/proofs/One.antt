@@ -146,7 +146,7 @@ one_refused κs a r t x y p q =
 pub one_fresh : (κs : _) (a : _) (r t : State) (x y : _) → of_fresh.Post κs a r x → of_fresh.Post κs a t y → r ≡ t
 one_fresh κs a r t x y p q = p ∙ sym (q)
 
--- of `setup`, whose proof is a walk by hand and gives no `Post`: its `ensures`, written out
+-- of `setup`: its `ensures`, written out
 pub one_setup : (xs : List FlowRecord) (terms : Terms) (r t : Made) →
     reply (verdict_paper r.answer) r.state ≡ setup_reply xs terms → reply (verdict_paper t.answer) t.state ≡ setup_reply xs terms →
     r ≡ t

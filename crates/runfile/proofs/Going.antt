@@ -452,10 +452,10 @@ module _ (H : Here) where
         by : (fu : ℕ) → h.fuel ≡ fu → (o' ≡ L ++ drop (6 * (m + 1)) o₀) × (b ≡ W ++ drop m b₀)
         by zero q = absurd (omega (arith, some_fuel later idle l' e zero q))
         by (suc k) q =
-            let last_Line = ap ahead q ∙ step_picks later idle l' e k ∙ ap (λ (ks : List Act). listing T ks l' y) (none_ahead k)
+            let last_line = ap ahead q ∙ step_picks later idle l' e k ∙ ap (λ (ks : List Act). listing T ks l' y) (none_ahead k)
             ∙ closing T l' y in
             let last-beside = ap aside q ∙ step_asks later idle l' e k ∙ ap (λ (ks : List Act). beside_all T ks l') (none_ahead k) in
-            let o-fills = filling_more h.listed (3 ∷ y.last ∷ y.sent ∷ y.refused ∷ 0 ∷ 0 ∷ []) [] last_Line line_fits (lines y + 1)
+            let o-fills = filling_more h.listed (3 ∷ y.last ∷ y.sent ∷ y.refused ∷ 0 ∷ 0 ∷ []) [] last_line line_fits (lines y + 1)
             (omega arith) o' is in (
               filling_ends o-fills refl ∙ ap (λ (i : ℕ). L ++ drop (6 * (i + 1)) o₀) all,
               filling_ends h.besides last-beside ∙ (let z : 1 * lines y ≡ m = omega (arith, all) in ap (λ (i : ℕ). W ++ drop i b₀) z),
