@@ -4,7 +4,7 @@ use Rattle.drr.specs.Limits.{most_waiting}
 use Rattle.drr.specs.State.{table_of, line_of}
 use Rattle.drr.specs.Sound.{cellsb}
 use Rattle.drr.proofs.Bools.{all_none, all_more}
-use Rattle.engine.proofs.Tests.{head_overhead, head_fault, flow_fault, no_fault, numbers_fault, cell_fault}
+use Rattle.engine.proofs.Tests.{head_fault, flow_fault, no_fault, numbers_fault, cell_fault}
 use Rattle.engine.proofs.Tests.{bytes_on, sum_fault, flow_good}
 use Rattle.engine.proofs.sound_in.Goals as goal
 
