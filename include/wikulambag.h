@@ -10,7 +10,7 @@
  *
  * Bools. `opened` must be 0 or 1. C's bool holds nothing else by itself; of a state that comes from outside as
  * bytes the caller has to see to it, for no promise holds of another byte. All other fields may hold any number.
- * Stack. A call uses less than 13 KiB below its caller's variables (measured, not proved: most, 12,308 bytes, by
+ * Stack. A call uses less than 7 KiB below its caller's variables (measured, not proved: most, 6,847 bytes, by
  * wikulambag_pick, the copy of the state that is passed among them). WIKULAMBAG_STACK is ample.
  * Threads. The library keeps nothing between calls and has no variables of its own: calls may run at the same
  * time. What is lent to wikulambag_run must not be changed by others until it returns. */

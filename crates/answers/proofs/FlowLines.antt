@@ -7,23 +7,23 @@ use native.Mathlib.Omega.{arith}
 use borrow.Author.Tests.{le-ltb, lt-ltb, lt-leb}
 use lib.Dec.{eqb, ltb}
 use lib.ListN.{length, take, drop, length-append, length-drop, length-map}
-use lib.Seq.{sets-eq, length-sets, take-append_seam, drop-append_seam, drop-drop, drop-length}
+use lib.Seq.{sets-eq, length-sets, take-append_seam, drop-drop, drop-length}
 use Rattle.drr.specs.Limits.{most_flows}
 use Rattle.drr.specs.declared.State.{State}
 use Rattle.drr.specs.declared.Table.{Table}
 use Rattle.drr.specs.declared.Refusal.{Refusal}
 use Rattle.drr.specs.Facts.{SoundState}
+use Rattle.drr.specs.Sound.{sound_state}
 use Rattle.drr.specs.Answers.{number_of, refused_at, Reply}
 use Rattle.drr.specs.Figures.{owed, lag, wait}
 use Rattle.drr.proofs.Bools.{by_test}
-use Rattle.drr.proofs.Facts.{of_sound}
 use Rattle.drr.proofs.Tables.{no_flows_ranged}
 use Rattle.drr.proofs.Calls.{fresh_state_sound, setup_keeps}
 use Rattle.runfile.specs.File.{header_answer, flows_in, terms_in, flows_reply}
 use Rattle.figures.specs.Time.{wait_time}
 use Rattle.figures.specs.Answers.{asked_answer, figure_is, value_of, time_answer, all_figures, figures_within}
 use Rattle.text.specs.Text.{refusal_text, numbers_text, numbers_within, timed_text, timed_within}
-use Rattle.text.specs.Text.{titles_text, titles_within, parted_byte, parted, Put}
+use Rattle.text.specs.Text.{titles_text, titles_within, Put}
 use Rattle.text.proofs.Texts.{Left, left_all, left_next, left_end, Filled, filled}
 use Rattle.text.proofs.Lines.{to_end, numbers_most}
 use Rattle.text.proofs.Rows.{timed_most, titles_most}
@@ -36,10 +36,10 @@ figures_length : (T : Table) (sizes : List ℕ) (f : ℕ) → length (flow_figur
 figures_length T sizes f = omega (arith, length-map sizes (owed T f))
 
 -- ---- the figures of a flow of a sound state, in a list of 21 numbers
-module _ (s : State) (ok : SoundState s) (f : ℕ) (below : f < s.table.n) where
+module _ (s : State) (ok : sound_state s ≡ true) (f : ℕ) (below : f < s.table.n) where
   asked_fine : (figure : ℕ) → value_of (asked_answer s f (figure_is figure)) ≡ figure
   unfolding asked_answer
-  asked_fine figure = rw (of_sound s.table _ ok, lt-leb s.table.n f below)
+  asked_fine figure = rw (ok, lt-leb s.table.n f below)
 
   each_fine : (sizes : List ℕ) →
       map (λ S. value_of (asked_answer s f (figure_is (owed s.table f S)))) sizes ≡ map (owed s.table f) sizes
@@ -156,16 +156,6 @@ two_filled u v b b' part at size fits p q =
     let rest = left_next (left_all b 0 (u ++ v) (omega (arith, whole))) u v refl b' at first same in
     let put = left_end rest v refl _ _ (part_put b' at v part size (omega (arith, p.0, same)) q) in
     filled 0 0 (u ++ v) b _ _ (omega arith) (omega (arith, whole)) put
-
--- .. and the whole with another byte in place of each space
-pub parted_filled : (p : ℕ) (u b b' part : List ℕ) (n : ℕ) → Filled u b b' n → part ≡ parted p (take n b') →
-    Filled (parted p u) b (part ++ drop n b') n
-parted_filled p u b b' part n f is =
-    let long : length (parted p u) ≡ length u = length-map u (parted_byte p) in
-    let front : take n b' ≡ u = (λ i. take (f.0 i) (f.1 i)) ∙ take-append_seam u (drop (length u) b) in
-    let behind : drop n b' ≡ drop (length (parted p u)) b =
-    (λ i. drop (f.0 i) (f.1 i)) ∙ drop-append_seam u (drop (length u) b) ∙ ap (λ (i : ℕ). drop i b) (sym long) in
-    (f.0 ∙ sym long, (λ i. (is ∙ ap (parted p) front) i ++ behind i))
 
 -- the rows by whether they have titles, and room for the titles
 module _ (T : Table) (sizes : List ℕ) (dress : Dress) where

@@ -39,11 +39,6 @@ pub refusal_fits : (number place room : ℕ) → 44 ≤ room → refusal_within 
 unfolding refusal_within
 refusal_fits number place room h = rw (le-ltb room 44 h)
 
--- the same numbers, in other types
-pub refusal_same : {n n' p p' : ℕ} → n ≡ n' → p ≡ p' → (room : ℕ) (b b' : List ℕ) (r : ℕ) →
-    Filled (refusal_within n p room) b b' r → Filled (refusal_within n' p' room) b b' r
-refusal_same e g room b b' r = as_text _ _ b b' r (λ i. refusal_within (e i) (g i) room)
-
 -- ---- a buffer too short for a run's text, and one that is not
 pub run_short : (b : List ℕ) (room : ℕ) → room < run_room → [] ≡ run_text_within b room
 unfolding run_text_within

@@ -41,8 +41,8 @@ use Rattle.figures.specs.Vectors.{Every, marked, raised}
 use Rattle.io.specs.Digits.{IsDigitCount}
 use Rattle.text.specs.Text.{listing_text, beside_text, places}
 use Rattle.textform.specs.declared.Want.{Want}
-use Rattle.textform.specs.declared.Making.TheVariants.{File, Fault}
-use Rattle.textform.specs.Made.{Draft, overhead_said, made, fault, bytes_in, made_bytes, making_in, making_of, most_made, made_of}
+use Rattle.std.specs.Prelude.{Ok, Err}
+use Rattle.textform.specs.Made.{Draft, overhead_said, made, fault, fault_at, bytes_in, made_bytes, making_in, making_of, most_made, made_of}
 use Rattle.textform.specs.Made as textform
 use Rattle.textform.specs.Shown.{text_of, shown_text, plainly, Bytes, FlowsThenEvents}
 use Rattle.drr.specs.contracts.State as state
@@ -344,12 +344,12 @@ fewest_digits = places_fewest
 pub made_answered : (text : List ℕ) → (made_of text).answer ≡ making_of text
 made_answered = sizes.made_answer
 
-pub made_given : (text : List ℕ) (n : ℕ) → making_of text ≡ File n → take n (made_of text).file ≡ made_bytes text
+pub made_given : (text : List ℕ) (n : ℕ) → making_of text ≡ Ok n → take n (made_of text).file ≡ made_bytes text
 made_given text n e = ap (take n) (sizes.made_file text) ∙ made_taken text n e (replicate most_made 0)
 
 -- a fault in line i makes no byte; 80 bytes, which drrmake has for it, are room for the line that tells it
 pub fault_makes_none : (text : List ℕ) (i : ℕ) (w : Want) → textform.outcome_of text ≡ fault i w →
-    (making_of text ≡ Fault i w) × (made_bytes text ≡ [])
+    (making_of text ≡ Err (fault_at i w)) × (made_bytes text ≡ [])
 unfolding making_of made_bytes
 fault_makes_none text i w e = (ap making_in e, ap bytes_in e)
 

@@ -29,6 +29,8 @@ use Rattle.scheduler.proofs.flows.table_of.Statement as table_of
 use Rattle.scheduler.proofs.flows.table_of.Met as table_of_met
 use Rattle.scheduler.proofs.flows.refused.Statement as refused
 use Rattle.scheduler.proofs.flows.refused.Met as refused_met
+use Rattle.scheduler.proofs.flows.made.Statement as made
+use Rattle.scheduler.proofs.flows.made.Met as made_met
 use Rattle.scheduler.proofs.flows.fresh.Statement as fresh
 use Rattle.scheduler.proofs.flows.fresh.Met as fresh_met
 use Rattle.engine.proofs.sound_in.Statement as sound_in
@@ -160,6 +162,9 @@ setup_of_meets = setup_of_met.met
 
 pub table_of_meets : {M : Type 1} → table_of.statement M
 table_of_meets = table_of_met.met
+
+pub made_meets : {M : Type 1} → made.statement M
+made_meets = made_met.met
 
 pub refused_meets : {M : Type 1} → refused.statement M
 refused_meets = refused_met.met

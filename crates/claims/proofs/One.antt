@@ -2,30 +2,23 @@
 -- the contract itself, as the source's `ensures` state it, of the lifetimes κs, the arguments a at entry, a result, and what was lent at
 -- exit (`x.0.now` of the first parameter, `x.1.0.now` of the second, and so on): a weaker `ensures` would leave these unproved.
 use mathlib.Core.Path.{◌≡◌, sym, ap, ◌∙◌}
-use mathlib.Core.Bool.{Bool, true}
-use mathlib.Core.List.{List, []}
+use mathlib.Core.Bool.{Bool}
 use Prim.Native.Nat.{ℕ}
+use Rattle.std.specs.Prelude.{Option, Result}
 use Rattle.drr.specs.declared.Common.{Common}
-use Rattle.drr.specs.declared.Spot.{Spot}
 use Rattle.drr.specs.declared.State.{State}
-use Rattle.drr.specs.declared.FlowRecord.{FlowRecord}
-use Rattle.drr.specs.declared.Terms.{Terms}
-use Rattle.drr.specs.declared.Tabled.{Tabled}
-use Rattle.drr.specs.declared.Made.{Made}
-use Rattle.drr.specs.declared.Picked.{Picked}
-use Rattle.drr.specs.declared.Arrived.{Arrived}
-use Rattle.drr.specs.declared.ArrivalAnswer.{ArrivalAnswer}
-use Rattle.drr.specs.declared.Verdict.{Verdict}
+use Rattle.drr.specs.declared.Table.{Table}
+use Rattle.drr.specs.declared.Answered.{Answered}
+use Rattle.drr.specs.declared.Refusal.{Refusal}
+use Rattle.drr.specs.declared.Refused.{Refused}
 use Rattle.drr.specs.declared.PickAnswer.{PickAnswer}
-use Rattle.drr.specs.Answers.{verdict_paper, arrival_paper, pick_paper, Outcome, Reply, reply}
-use Rattle.drr.specs.Setup.{setup_reply}
+use Rattle.drr.specs.Answers.{verdict_paper, arrival_paper, pick_paper, Outcome, reply}
+use Rattle.drr.specs.State.{no_flows}
 use Rattle.drr.proofs.Papers as papers
-use Rattle.engine.specs.declared.Picking.{Picking}
-use Rattle.figures.specs.declared.Figure.{Figure}
+use Rattle.drr.proofs.States.{line_one}
 use Rattle.figures.specs.Answers.{figure_paper}
 use Rattle.figures.proofs.Claims.{figure_apart}
 use Rattle.runfile.specs.declared.reader.Contents.{Contents}
-use Rattle.text.specs.declared.Word.{Word}
 use Rattle.textform.specs.declared.Made.{Made as MadeFile}
 use Rattle.exports.specs.declared.SetupResult.{SetupResult}
 use Rattle.exports.specs.declared.ArrivalResult.{ArrivalResult}
@@ -43,7 +36,9 @@ use Rattle.widths.proofs.u64_of_usize.Reads as of_u64_of_usize
 use Rattle.scheduler.proofs.sound.Reads as of_sound
 use Rattle.scheduler.proofs.arrival.Reads as of_arrival
 use Rattle.scheduler.proofs.pick.Reads as of_pick
+use Rattle.scheduler.proofs.flows.setup.Reads as of_setup
 use Rattle.scheduler.proofs.flows.setup_of.Reads as of_setup_of
+use Rattle.scheduler.proofs.flows.made.Reads as of_made
 use Rattle.scheduler.proofs.flows.table_of.Reads as of_table_of
 use Rattle.scheduler.proofs.flows.refused.Reads as of_refused
 use Rattle.scheduler.proofs.flows.fresh.Reads as of_fresh
@@ -113,44 +108,36 @@ one_u64_of_u32 κs a r t x y p q = p.0 ∙ sym q.0
 pub one_u64_of_usize : (κs : _) (a : _) (r t : ℕ) (x y : _) → of_u64_of_usize.Post κs a r x → of_u64_of_usize.Post κs a t y → r ≡ t
 one_u64_of_usize κs a r t x y p q = p ∙ sym (q)
 
--- ---- the scheduler: the paper answer settles the enum, and the state stands beside it
+-- ---- the scheduler: the paper answer settles the answer, and the state stands beside it
 
 pub one_sound : (κs : _) (a : _) (r t : Bool) (x y : _) → of_sound.Post κs a r x → of_sound.Post κs a t y → r ≡ t
 one_sound κs a r t x y p q = p ∙ sym (q)
 
-pub one_arrival : (κs : _) (a : _) (r t : Arrived) (x y : _) → of_arrival.Post κs a r x → of_arrival.Post κs a t y → r ≡ t
-one_arrival κs a r t x y p q =
-    let e = p ∙ sym q in
-    let answer = papers.arrival_one r.answer t.answer (ap (λ (z : Reply). z.answer) e) in
-    λ i. record { answer = answer i; state = (e i).state }
+pub one_arrival : (κs : _) (a : _) (r t : Answered (Result (Unit {0}) Refusal)) (x y : _) → of_arrival.Post κs a r x → of_arrival.Post κs a t y → r ≡ t
+one_arrival κs a r t x y p q = papers.answered_one arrival_paper papers.arrival_one _ r t p q
 
-pub one_pick : (κs : _) (a : _) (r t : Picked) (x y : _) → of_pick.Post κs a r x → of_pick.Post κs a t y → r ≡ t
-one_pick κs a r t x y p q =
-    let e = p ∙ sym q in
-    let answer = papers.pick_one r.answer t.answer (ap (λ (z : Reply). z.answer) e) in
-    λ i. record { answer = answer i; state = (e i).state }
+pub one_pick : (κs : _) (a : _) (r t : Answered PickAnswer) (x y : _) → of_pick.Post κs a r x → of_pick.Post κs a t y → r ≡ t
+one_pick κs a r t x y p q = papers.answered_one pick_paper papers.pick_one _ r t p q
 
-pub one_setup_of : (κs : _) (a : _) (r t : Made) (x y : _) → of_setup_of.Post κs a r x → of_setup_of.Post κs a t y → r ≡ t
-one_setup_of κs a r t x y p q = papers.one_made _ r t p q
+pub one_setup_of : (κs : _) (a : _) (r t : Answered (Result (Unit {0}) Refused)) (x y : _) → of_setup_of.Post κs a r x → of_setup_of.Post κs a t y → r ≡ t
+one_setup_of κs a r t x y p q = papers.answered_one verdict_paper papers.verdict_one _ r t p q
 
-pub one_table_of : (κs : _) (a : _) (r t : Tabled) (x y : _) → of_table_of.Post κs a r x → of_table_of.Post κs a t y → r ≡ t
-one_table_of κs a r t x y p q =
-    let answer = papers.verdict_one r.answer t.answer (p.0 ∙ sym q.0) in
-    λ i. record { answer = answer i; table = (p.1 ∙ sym q.1) i }
+pub one_table_of : (κs : _) (a : _) (r t : Result Table Refused) (x y : _) → of_table_of.Post κs a r x → of_table_of.Post κs a t y → r ≡ t
+one_table_of κs a r t x y p q = papers.result_one no_flows r t (p.0 ∙ sym q.0) (p.1 ∙ sym q.1)
 
-pub one_refused : (κs : _) (a : _) (r t : Tabled) (x y : _) → of_refused.Post κs a r x → of_refused.Post κs a t y → r ≡ t
+pub one_made : (κs : _) (a : _) (r t : Answered (Result (Unit {0}) Refused)) (x y : _) → of_made.Post κs a r x → of_made.Post κs a t y → r ≡ t
+one_made κs a r t x y p q = papers.answered_one verdict_paper papers.verdict_one _ r t p q
+
+pub one_refused : (κs : _) (a : _) (r t : Answered (Result (Unit {0}) Refused)) (x y : _) → of_refused.Post κs a r x → of_refused.Post κs a t y → r ≡ t
 one_refused κs a r t x y p q =
     let answer = papers.verdict_one r.answer t.answer (p.0 ∙ sym q.0) in
-    λ i. record { answer = answer i; table = (p.1 ∙ sym q.1) i }
+    λ i. record { answer = answer i; state = (p.1 ∙ sym q.1) i }
 
 pub one_fresh : (κs : _) (a : _) (r t : State) (x y : _) → of_fresh.Post κs a r x → of_fresh.Post κs a t y → r ≡ t
 one_fresh κs a r t x y p q = p ∙ sym (q)
 
--- of `setup`: its `ensures`, written out
-pub one_setup : (xs : List FlowRecord) (terms : Terms) (r t : Made) →
-    reply (verdict_paper r.answer) r.state ≡ setup_reply xs terms → reply (verdict_paper t.answer) t.state ≡ setup_reply xs terms →
-    r ≡ t
-one_setup xs terms = papers.one_made (setup_reply xs terms)
+pub one_setup : (κs : _) (a : _) (r t : Answered (Result (Unit {0}) Refused)) (x y : _) → of_setup.Post κs a r x → of_setup.Post κs a t y → r ≡ t
+one_setup κs a r t x y p q = papers.answered_one verdict_paper papers.verdict_one _ r t p q
 
 -- ---- the test of a line, and the steps beneath, which other crates call
 
@@ -160,51 +147,38 @@ one_sound_line κs a r t x y p q = p ∙ sym (q)
 pub one_sound_in : (κs : _) (a : _) (r t : Bool) (x y : _) → of_sound_in.Post κs a r x → of_sound_in.Post κs a t y → r ≡ t
 one_sound_in κs a r t x y p q = p ∙ sym (q)
 
--- the result, and the counts, the sums, the deficits and the rows at exit
-pub one_pick_in : (κs : _) (a : _) (r t : Picking) (x y : _) → of_pick_in.Post κs a r x → of_pick_in.Post κs a t y →
-    (r ≡ t) × (x.1.1.1.0.now ≡ y.1.1.1.0.now) × (x.1.1.1.1.0.now ≡ y.1.1.1.1.0.now)
-    × (x.1.1.1.1.1.0.now ≡ y.1.1.1.1.1.0.now) × (x.1.1.1.1.1.1.0.now ≡ y.1.1.1.1.1.1.0.now)
+-- the result, and the line at exit
+pub one_pick_in : (κs : _) (a : _) (r t : PickAnswer) (x y : _) → of_pick_in.Post κs a r x → of_pick_in.Post κs a t y →
+    (r ≡ t) × (x.1.0.now ≡ y.1.0.now)
 one_pick_in κs a r t x y p q =
     let e = p ∙ sym q in
-    let answer = papers.pick_one r.answer t.answer (ap (λ (z : Outcome). z.answer) e) in (
-      λ i. record { answer = answer i; spot = record { place = (e i).line.place; opened = (e i).line.opened } },
-      ap (λ (z : Outcome). z.line.counts) e,
-      ap (λ (z : Outcome). z.line.sums) e,
-      ap (λ (z : Outcome). z.line.deficits) e,
-      ap (λ (z : Outcome). z.line.rows) e,
-    )
+    (papers.pick_one r t (ap (λ (z : Outcome). z.answer) e), line_one _ _ (ap (λ (z : Outcome). z.line) e))
 
 pub one_charge_of : (κs : _) (a : _) (r t : ℕ) (x y : _) → of_charge.Post κs a r x → of_charge.Post κs a t y → r ≡ t
 one_charge_of κs a r t x y p q = p ∙ sym q
 
--- the result, and the counts, the sums and the rows at exit
-pub one_book : (κs : _) (a : _) (r t : ArrivalAnswer) (x y : _) → of_book.Post κs a r x → of_book.Post κs a t y →
-    (r ≡ t) × (x.1.1.0.now ≡ y.1.1.0.now) × (x.1.1.1.0.now ≡ y.1.1.1.0.now)
-    × (x.1.1.1.1.0.now ≡ y.1.1.1.1.0.now)
+-- likewise
+pub one_book : (κs : _) (a : _) (r t : Result (Unit {0}) Refusal) (x y : _) → of_book.Post κs a r x → of_book.Post κs a t y →
+    (r ≡ t) × (x.1.0.now ≡ y.1.0.now)
 one_book κs a r t x y p q =
-    let spot : Spot = record { place = 0; opened = true } in
-    let e = p [] [] spot ∙ sym (q [] [] spot) in (
-      papers.arrival_one r t (ap (λ (z : Outcome). z.answer) e),
-      ap (λ (z : Outcome). z.line.counts) e,
-      ap (λ (z : Outcome). z.line.sums) e,
-      ap (λ (z : Outcome). z.line.rows) e,
-    )
+    let e = p ∙ sym q in
+    (papers.arrival_one r t (ap (λ (z : Outcome). z.answer) e), line_one _ _ (ap (λ (z : Outcome). z.line) e))
 
 -- ---- the figures
 
-pub one_owed : (κs : _) (a : _) (r t : Figure) (x y : _) → of_owed.Post κs a r x → of_owed.Post κs a t y → r ≡ t
+pub one_owed : (κs : _) (a : _) (r t : Result ℕ Refusal) (x y : _) → of_owed.Post κs a r x → of_owed.Post κs a t y → r ≡ t
 one_owed κs a r t x y p q = figure_apart r t (p ∙ sym q)
 
-pub one_wait : (κs : _) (a : _) (r t : Figure) (x y : _) → of_wait.Post κs a r x → of_wait.Post κs a t y → r ≡ t
+pub one_wait : (κs : _) (a : _) (r t : Result ℕ Refusal) (x y : _) → of_wait.Post κs a r x → of_wait.Post κs a t y → r ≡ t
 one_wait κs a r t x y p q = figure_apart r t (p ∙ sym q)
 
-pub one_wait_time : (κs : _) (a : _) (r t : Figure) (x y : _) → of_wait_time.Post κs a r x → of_wait_time.Post κs a t y → r ≡ t
+pub one_wait_time : (κs : _) (a : _) (r t : Result ℕ Refusal) (x y : _) → of_wait_time.Post κs a r x → of_wait_time.Post κs a t y → r ≡ t
 one_wait_time κs a r t x y p q = figure_apart r t (p ∙ sym q)
 
-pub one_lag : (κs : _) (a : _) (r t : Figure) (x y : _) → of_lag.Post κs a r x → of_lag.Post κs a t y → r ≡ t
+pub one_lag : (κs : _) (a : _) (r t : Result ℕ Refusal) (x y : _) → of_lag.Post κs a r x → of_lag.Post κs a t y → r ≡ t
 one_lag κs a r t x y p q = figure_apart r t (p ∙ sym q)
 
-pub one_waiting_bytes : (κs : _) (a : _) (r t : Figure) (x y : _) → of_waiting_bytes.Post κs a r x → of_waiting_bytes.Post κs a t y →
+pub one_waiting_bytes : (κs : _) (a : _) (r t : Result ℕ Refusal) (x y : _) → of_waiting_bytes.Post κs a r x → of_waiting_bytes.Post κs a t y →
     r ≡ t
 one_waiting_bytes κs a r t x y p q = figure_apart r t (p ∙ sym q)
 
@@ -217,19 +191,18 @@ one_all_figures κs a r t x y p q = (p.0 ∙ sym q.0, p.1 ∙ sym q.1)
 
 -- ---- the run file and its run
 
-pub one_read : (κs : _) (a : _) (r t : Contents) (x y : _) → of_read.Post κs a r x → of_read.Post κs a t y → r ≡ t
+pub one_read : (κs : _) (a : _) (r t : Result Contents Refused) (x y : _) → of_read.Post κs a r x → of_read.Post κs a t y → r ≡ t
 one_read κs a r t x y p q =
-    let answer = papers.verdict_one r.answer t.answer (p.0 ∙ sym q.0) in
-    λ i. record { answer = answer i; table = (p.1.0 ∙ sym q.1.0) i; events = (p.1.1 ∙ sym q.1.1) i }
+    papers.result_settled _ (λ c d m n i. record { table = (m.0 ∙ sym n.0) i; events = (m.1 ∙ sym n.1) i }) r t (p.0 ∙ sym q.0) p.1 q.1
 
-pub one_read_flows : (κs : _) (a : _) (r t : Made) (x y : _) → of_read_flows.Post κs a r x → of_read_flows.Post κs a t y → r ≡ t
-one_read_flows κs a r t x y p q = papers.one_made _ r t p q
+pub one_read_flows : (κs : _) (a : _) (r t : Answered (Result (Unit {0}) Refused)) (x y : _) → of_read_flows.Post κs a r x → of_read_flows.Post κs a t y → r ≡ t
+one_read_flows κs a r t x y p q = papers.answered_one verdict_paper papers.verdict_one _ r t p q
 
-pub one_run : (κs : _) (a : _) (r t : Verdict) (x y : _) → of_run.Post κs a r x → of_run.Post κs a t y →
+pub one_run : (κs : _) (a : _) (r t : Result (Unit {0}) Refused) (x y : _) → of_run.Post κs a r x → of_run.Post κs a t y →
     (r ≡ t) × (x.1.0.now ≡ y.1.0.now)
 one_run κs a r t x y p q = (papers.verdict_one r t (p.0 ∙ sym q.0), p.1 ∙ sym q.1)
 
-pub one_run_waiting : (κs : _) (a : _) (r t : Verdict) (x y : _) → of_run_waiting.Post κs a r x → of_run_waiting.Post κs a t y →
+pub one_run_waiting : (κs : _) (a : _) (r t : Result (Unit {0}) Refused) (x y : _) → of_run_waiting.Post κs a r x → of_run_waiting.Post κs a t y →
     (r ≡ t) × (x.1.0.now ≡ y.1.0.now) × (x.1.1.0.now ≡ y.1.1.0.now)
 one_run_waiting κs a r t x y p q =
     (papers.verdict_one r t (p.0 ∙ sym q.0), p.1.0 ∙ sym q.1.0, p.1.1 ∙ sym q.1.1)
@@ -270,7 +243,7 @@ pub one_part_by : (κs : _) (a : _) (r t : _) (x y : _) → of_part_by.Post κs 
     x.1.0.now ≡ y.1.0.now
 one_part_by κs a r t x y p q = p ∙ sym q
 
-pub one_word_of : (κs : _) (a : _) (r t : Word) (x y : _) → of_word_of.Post κs a r x → of_word_of.Post κs a t y → r ≡ t
+pub one_word_of : (κs : _) (a : _) (r t : Option ℕ) (x y : _) → of_word_of.Post κs a r x → of_word_of.Post κs a t y → r ≡ t
 one_word_of κs a r t x y p q = p ∙ sym (q)
 
 pub one_same : (κs : _) (a : _) (r t : Bool) (x y : _) → of_same.Post κs a r x → of_same.Post κs a t y → r ≡ t
@@ -312,7 +285,7 @@ pub one_make_file : (κs : _) (a : _) (r t : MadeFile) (x y : _) → of_make_fil
 one_make_file κs a r t x y p q = p.0 ∙ sym q.0
 
 pub one_fault_text : (κs : _) (a : _) (r t : ℕ) (x y : _) → of_fault_text.Post κs a r x → of_fault_text.Post κs a t y →
-    (r ≡ t) × (x.1.1.0.now ≡ y.1.1.0.now)
+    (r ≡ t) × (x.1.0.now ≡ y.1.0.now)
 one_fault_text κs a r t x y p q = (p.0 ∙ sym q.0, p.1.0 ∙ sym q.1.0)
 
 -- ---- the functions for other languages
@@ -347,11 +320,11 @@ pub one_told_run : (κs : _) (a : _) (r t : RunResult) (x y : _) → told_run.Po
 one_told_run κs a r t x y p q = (p.0 ∙ sym q.0, p.1 ∙ sym q.1)
 
 -- nothing is lost by the names: two answers that are told as one struct are one, and so are the states beside them
-pub told_setup_apart : (v w : Verdict) (s t : State) → setup_told (reply (verdict_paper v) s) ≡ setup_told (reply (verdict_paper w) t) →
+pub told_setup_apart : (v w : Result (Unit {0}) Refused) (s t : State) → setup_told (reply (verdict_paper v) s) ≡ setup_told (reply (verdict_paper w) t) →
     (v ≡ w) × (s ≡ t)
 told_setup_apart = told.setup_apart
 
-pub told_arrival_apart : (a b : ArrivalAnswer) (s t : State) →
+pub told_arrival_apart : (a b : Result (Unit {0}) Refusal) (s t : State) →
     arrival_told (reply (arrival_paper a) s) ≡ arrival_told (reply (arrival_paper b) t) → (a ≡ b) × (s ≡ t)
 told_arrival_apart = told.arrival_apart
 
@@ -359,8 +332,8 @@ pub told_pick_apart : (a b : PickAnswer) (s t : State) → pick_told (reply (pic
     (a ≡ b) × (s ≡ t)
 told_pick_apart = told.pick_apart
 
-pub told_figure_apart : (a b : Figure) → figure_told (figure_paper a) ≡ figure_told (figure_paper b) → a ≡ b
+pub told_figure_apart : (a b : Result ℕ Refusal) → figure_told (figure_paper a) ≡ figure_told (figure_paper b) → a ≡ b
 told_figure_apart = told.figure_apart
 
-pub told_run_apart : (v w : Verdict) → run_told (verdict_paper v) ≡ run_told (verdict_paper w) → v ≡ w
+pub told_run_apart : (v w : Result (Unit {0}) Refused) → run_told (verdict_paper v) ≡ run_told (verdict_paper w) → v ≡ w
 told_run_apart = told.run_apart

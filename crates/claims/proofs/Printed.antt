@@ -22,16 +22,16 @@ use Rattle.text.specs.Text.{places, decimal, form_text, kinds, form_in, line_tex
 use Rattle.text.specs.Text.{numbers_text, time_text, timed_text, titles_text, parted}
 use Rattle.text.proofs.Rows.{parted_space}
 use Rattle.figures.specs.Time.{wait_time}
-use Rattle.figures.specs.Needs.{Known}
+use Rattle.std.specs.Int.{div_ceil}
 use Rattle.figures.proofs.Laws.{time_from}
 use Rattle.figures.proofs.Vectors.{waits, owes}
 use Rattle.answers.specs.declared.Dress.{Dress}
 use Rattle.answers.specs.Printed.{run_text, waiting_text, answer_text, overhead_text, flow_figures, flow_line, flow_lines, plain, figures_text}
 use Rattle.text.specs.Spelt.{spelt}
 use Rattle.textform.specs.declared.Want.TheVariants as want
-use Rattle.textform.specs.declared.Making.TheVariants.{Fault}
+use Rattle.std.specs.Prelude.{Err}
 use Rattle.textform.specs.Grammar.{item_of}
-use Rattle.textform.specs.Made.{outcome_of, file_of, made_bytes, making_of}
+use Rattle.textform.specs.Made.{outcome_of, file_of, made_bytes, making_of, fault_at}
 use Rattle.textform.specs.Shown.{text_of, shown_text}
 use Rattle.textform.specs.Words.{fault_text}
 
@@ -197,7 +197,7 @@ worked_table =
 
 module _ (i : ℕ) (low : i < T₀.n) where
   abbrev by_time : ℕ
-  by_time = (by_wait T₀ ranged i low * 8 * 100000000 - 1) / 10000000 + 1
+  by_time = div_ceil (by_wait T₀ ranged i low * 8 * 100000000) 10000000
 
   timed_is : timed_text (flow_figures T₀ (10000 ∷ 1000000 ∷ []) i) (wait_time T₀ i 10000000)
       ≡ timed_text (i ∷ quantum_of T₀ i ∷ maximum_of T₀ i ∷ lag T₀ i ∷ by_wait T₀ ranged i low
@@ -205,9 +205,8 @@ module _ (i : ℕ) (low : i < T₀.n) where
   timed_is =
       let w : wait T₀ i ≡ by_wait T₀ ranged i low = waits ranged i low refl in
       let o : (S : ℕ) → owed T₀ i S ≡ by_owed T₀ ranged i low S = λ S. owes ranged i low S refl in
-      let known : Known T₀ i = record { ranged = ranged; below = low } in
       let t : wait_time T₀ i 10000000 ≡ by_time =
-      sym (time_from known 10000000 (lit< tt)) ∙ ap (λ (x : ℕ). (x * 8 * 100000000 - 1) / 10000000 + 1) w in
+      sym (time_from T₀ i 10000000 (lit< tt)) ∙ ap (λ (x : ℕ). div_ceil (x * 8 * 100000000) 10000000) w in
       λ j. timed_text (i ∷ quantum_of T₀ i ∷ maximum_of T₀ i ∷ lag T₀ i ∷ w j ∷ o 10000 j ∷ o 1000000 j ∷ []) (t j)
 
 pub worked_dressed : figures_text worked (10000 ∷ 1000000 ∷ []) csv ≡ worked_table
@@ -244,7 +243,7 @@ overhead_made = refl
 abbrev pub faulty : List ℕ
 faulty = spelt "flow 500 800\nflow 300,5 800\n"
 
-pub faulty_told : (making_of faulty ≡ Fault 2 want.Quantum) ×
+pub faulty_told : (making_of faulty ≡ Err (fault_at 2 want.Quantum)) ×
     (fault_text 2 want.Quantum ≡ spelt "line 2: expected a quantum, 1 to 65535\n")
 unfolding making_of outcome_of item_of decimal places
 faulty_told = (refl, refl)

@@ -6,12 +6,11 @@ use Prim.Native.Nat.{ℕ, zero, suc, ◌+◌, ◌*◌, ◌-◌}
 use native.Mathlib.Omega.{arith}
 use borrow.Author.Tests.{le-leb, eq-eqb}
 use lib.Dec.{ltb, leb, eqb}
+use Rattle.std.specs.Prelude.{Option, Some, None}
 use Rattle.drr.specs.declared.FlowRecord.{FlowRecord}
 use Rattle.drr.specs.declared.Table.{Table}
-use Rattle.drr.specs.declared.Found.{Found}
-use Rattle.drr.specs.declared.Found.TheVariants.{At, Nothing}
 use Rattle.drr.specs.State.{Line, quantum_of, maximum_of, maximum_charge, deficit_of, waiting_of, sum_of, row_of, oldest, oldest_charge}
-use Rattle.drr.specs.State.{with_deficit, with_row, shifted_of, common, spot_at}
+use Rattle.drr.specs.State.{with_deficit, with_row, shifted_of}
 use Rattle.drr.specs.Limits.{most_flows, most_overhead, most_waiting}
 use Rattle.drr.specs.Sound.{all, headb, numbersb, visited, cellsb, sumb, flowb, soundb}
 use Rattle.drr.specs.Answers.{sent_as, Outcome, outcome}
@@ -37,20 +36,19 @@ module _ (T : Table) (none : T.overhead ≡ 0) where
       && all most_waiting (cellsb T l f) && sumb l f) (charged l f)
 
   -- the overhead's tests are passed
-  head_same : (n place o : ℕ) (opened : Bool) → o ≡ 0 → headb (common n o) (spot_at place opened) ≡ before.headb n place opened
-  head_same n place o opened e =
-      rw (le-leb o most_overhead (omega arith), eq-eqb o 0 e) (go (leb n most_flows) (eqb n 0))
+  head_same : (l : Line) → headb T l ≡ before.headb T.n l.place l.opened
+  head_same l =
+      rw (le-leb T.overhead most_overhead (omega (arith, none)), eq-eqb T.overhead 0 none) (go (leb T.n most_flows) (eqb T.n 0))
     where
-      go : (a b : Bool) → (a && true) && (ltb place n || (b && true && eqb place 0 && not opened))
-          ≡ (a && (ltb place n || (b && eqb place 0 && not opened)))
-      go a b = ap (λ (x : Bool). x && (ltb place n || (b && true && eqb place 0 && not opened))) (and-true a)
-          ∙ ap (λ (x : Bool). a && (ltb place n || (x && eqb place 0 && not opened))) (and-true b)
+      go : (a b : Bool) → (a && true) && (ltb l.place T.n || (b && true && eqb l.place 0 && not l.opened))
+          ≡ (a && (ltb l.place T.n || (b && eqb l.place 0 && not l.opened)))
+      go a b = ap (λ (x : Bool). x && (ltb l.place T.n || (b && true && eqb l.place 0 && not l.opened))) (and-true a)
+          ∙ ap (λ (x : Bool). a && (ltb l.place T.n || (x && eqb l.place 0 && not l.opened))) (and-true b)
 
   pub sound_same : (l : Line) → soundb T l ≡ before.soundb T l
   unfolding soundb before.soundb
   sound_same l =
-      let head = head_same T.n l.place T.overhead l.opened none in
-      λ i. head i && all most_flows (λ f. flow_same l f i)
+      λ i. head_same l i && all most_flows (λ f. flow_same l f i)
 
   -- ---- the pick
   -- the oldest packet of flow f sent at this cost
@@ -66,9 +64,9 @@ module _ (T : Table) (none : T.overhead ≡ 0) where
   serve_same true v l f e = sending_same l f v
   serve_same false v l f e = ap (λ (g : Line → Outcome). g (closed l)) e
 
-  turn_same : (v : ℕ) (l : Line) (o : Found) {g h : Line → Outcome} → g ≡ h → turn T v l o g ≡ before.turn T v l o h
-  turn_same v l Nothing e = refl
-  turn_same v l (At f) {h = h} e =
+  turn_same : (v : ℕ) (l : Line) (o : Option ℕ) {g h : Line → Outcome} → g ≡ h → turn T v l o g ≡ before.turn T v l o h
+  turn_same v l None e = refl
+  turn_same v l (Some f) {h = h} e =
       serve_same (leb (oldest_charge T l f) (deficit_of (open_at T l f) f)) (v + 1) (open_at T l f) f e
       ∙ ap (λ (cost : ℕ). before.serve (leb cost (deficit_of (open_at T l f) f)) (v + 1) (open_at T l f) f h) (charged l f)
 

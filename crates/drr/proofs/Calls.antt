@@ -7,12 +7,11 @@ use Prim.Native.Nat.{ℕ, zero, suc, ◌+◌, ◌≤◌, ◌<◌}
 use native.Mathlib.Omega.{arith}
 use borrow.Author.Tests.{eqb-true, lt-ltb}
 use lib.Dec.{leb, eqb}
+use Rattle.std.specs.Prelude.{Option, Some, None}
 use Rattle.drr.specs.declared.Table.{Table}
 use Rattle.drr.specs.declared.State.{State}
 use Rattle.drr.specs.declared.FlowRecord.{FlowRecord}
 use Rattle.drr.specs.declared.Terms.{Terms}
-use Rattle.drr.specs.declared.Found.{Found}
-use Rattle.drr.specs.declared.Found.TheVariants.{At, Nothing}
 use Rattle.drr.specs.Limits.{most_overhead, most_charges}
 use Rattle.drr.specs.State.{Line, deficit_of, oldest_charge, line_in, state_from, fresh_line, fresh_state, empty_table}
 use Rattle.drr.specs.Sound.{sound_state}
@@ -78,9 +77,9 @@ serve_fine : (T : Table) (b : Bool) (v : ℕ) (l : Line) (f : ℕ) (goto2 : Line
 serve_fine T true v l f goto2 h = refl
 serve_fine T false v l f goto2 h = h (closed l)
 
-turn_fine : (T : Table) (v : ℕ) (l : Line) (o : Found) (goto2 : Line → Outcome) → ((t : Line) → Fine (goto2 t)) → Fine (turn T v l o goto2)
-turn_fine T v l Nothing goto2 h = refl
-turn_fine T v l (At f) goto2 h = serve_fine T (leb (oldest_charge T l f) (deficit_of (open_at T l f) f)) (v + 1) (open_at T l f) f goto2 h
+turn_fine : (T : Table) (v : ℕ) (l : Line) (o : Option ℕ) (goto2 : Line → Outcome) → ((t : Line) → Fine (goto2 t)) → Fine (turn T v l o goto2)
+turn_fine T v l None goto2 h = refl
+turn_fine T v l (Some f) goto2 h = serve_fine T (leb (oldest_charge T l f) (deficit_of (open_at T l f) f)) (v + 1) (open_at T l f) f goto2 h
 
 look_fine : (T : Table) (k v : ℕ) (l : Line) → Fine (look_for T k v l)
 unfolding look_for

@@ -9,9 +9,9 @@ use lib.Dec.{ltb, leb, eqb}
 use lib.ListN.{get_or, take}
 use Rattle.drr.specs.declared.Table.{Table}
 use Rattle.drr.specs.State.{Line, quantum_of, maximum_of, deficit_of, waiting_of, sum_of, row_of, bytes_of, bytes_waiting}
-use Rattle.drr.specs.State.{oldest_charge, common_in, spot_at}
+use Rattle.drr.specs.State.{oldest_charge}
 use Rattle.drr.specs.Limits.{least_quantum, most_quantum, least_maximum, most_maximum, most_overhead, most_waiting, most_flows}
-use Rattle.drr.specs.Sound.{all, quantumb, maximumb, headb, rangeb, withinb, creditb, unusedb, numbersb}
+use Rattle.drr.specs.Sound.{all, quantumb, maximumb, headb, rangeb, withinb, creditb, unusedb, flow_numbersb}
 use Rattle.drr.specs.Sound.{visited, cellsb, sumb, flowb, soundb}
 use Rattle.drr.specs.Facts.{Credit, InUse, Unused, Flow, Shaped, Sound}
 use Rattle.drr.proofs.Bools.{and_left, and_right, and_both, or_cases, or_inl, or_inr, not_of, chosen, choose, within_of}
@@ -101,9 +101,6 @@ module _ (T : Table) (l : Line) (f : ℕ) where
   abbrev credit_of : Bool
   credit_of = creditb (visited l f) d q c (oldest_charge T l f)
 
-  abbrev numbers_of : Bool
-  numbers_of = numbersb (ltb f T.n) (visited l f) q m d c (oldest_charge T l f)
-
   -- the free cells are zero
   free_zero : all most_waiting (cellsb T l f) ≡ true → (k : ℕ) → k < most_waiting → c ≤ k → cell k ≡ 0
   unfolding cellsb
@@ -112,7 +109,7 @@ module _ (T : Table) (l : Line) (f : ℕ) where
       ((chosen (ltb k c) (withinb 1 m (cell k)) (eqb (cell k) 0) (all_at most_waiting (cellsb T l f) a k x)).1 (le-ltb k c w))
 
   -- .. so all cells of a row have the bytes that wait
-  pub row_bytes : numbers_of ≡ true → all most_waiting (cellsb T l f) ≡ true → bytes_of (take most_waiting (row_of l f)) ≡ bytes_waiting l f
+  pub row_bytes : flow_numbersb T l f ≡ true → all most_waiting (cellsb T l f) ≡ true → bytes_of (take most_waiting (row_of l f)) ≡ bytes_waiting l f
   row_bytes n a =
       let h = chosen (ltb f T.n) (range_of && credit_of) (unusedb q m d c) n in
       let few : c ≤ most_waiting = ⊎_elim
@@ -126,7 +123,7 @@ module _ (T : Table) (l : Line) (f : ℕ) where
   pub flow_is : flowb T l f ≡ true → Flow T l f
   unfolding flowb cellsb
   flow_is e =
-      let a = numbers_of in
+      let a = flow_numbersb T l f in
       let b = all most_waiting (cellsb T l f) in
       let i = and_left (a && b) (sumb l f) e in
       let h = chosen (ltb f T.n) (range_of && credit_of) (unusedb q m d c) (and_left a b i) in
@@ -171,7 +168,7 @@ module _ (T : Table) (l : Line) where
   pub sound_is : Shaped T l → soundb T l ≡ true → Sound T l
   unfolding soundb
   sound_is shape e =
-      let a = headb (common_in T) (spot_at l.place l.opened) in
+      let a = headb T l in
       let b = all most_flows (flowb T l) in
       let h = and_left a b e in
       record {

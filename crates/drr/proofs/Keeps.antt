@@ -5,9 +5,9 @@ use Prim.Native.Nat.{ℕ, ◌+◌}
 use native.Mathlib.Omega.{arith}
 use borrow.Author.Tests.{leb-false, ltb-false, eqb-false}
 use lib.Dec.{ltb, leb, eqb}
+use Rattle.std.specs.Prelude.{None}
 use Rattle.drr.specs.Limits.{most_waiting}
 use Rattle.drr.specs.declared.Table.{Table}
-use Rattle.drr.specs.declared.Found.TheVariants.{Nothing}
 use Rattle.drr.specs.State.{Line, maximum_of, waiting_of}
 use Rattle.drr.specs.Facts.{Sound}
 use Rattle.drr.specs.Answers.{Answer, idle, Outcome, outcome}
@@ -60,12 +60,12 @@ pick_keeps T l ok = picks_keep (pick_is T l ok) ok
 
 -- an idle pick leaves no visit open, and nothing to find
 looks_idle : {T : Table} {v : ℕ} {l : Line} {a : Answer} {t : Line} → Looks T v l a t → a ≡ idle → l.opened ≡ false →
-    (t.opened ≡ false) × (next T t ≡ Nothing)
+    (t.opened ≡ false) × (next T t ≡ None)
 looks_idle (idles e) is off = (off, e)
 looks_idle (sends e enough) is off = absurd (sent_not_idle is)
 looks_idle (passes e short r) is off = looks_idle r is refl
 
-picks_idle : {T : Table} {l : Line} {a : Answer} {t : Line} → Picks T l a t → a ≡ idle → (t.opened ≡ false) × (next T t ≡ Nothing)
+picks_idle : {T : Table} {l : Line} {a : Answer} {t : Line} → Picks T l a t → a ≡ idle → (t.opened ≡ false) × (next T t ≡ None)
 picks_idle (goes_on on r) is = absurd (sent_not_idle is)
 picks_idle (closes on stuck r) is = looks_idle r is refl
 picks_idle (starts off r) is = looks_idle r is off

@@ -5,9 +5,8 @@ use Prim.Native.Nat.{ℕ, zero, suc, ◌+◌, ◌-◌, ◌≤◌, ◌<◌}
 use native.Mathlib.Omega.{arith}
 use borrow.Author.Tests.{leb-true, leb-false, ltb-true, ltb-false}
 use lib.Dec.{ltb, leb}
+use Rattle.std.specs.Prelude.{Option, Some, None}
 use Rattle.drr.specs.declared.Table.{Table}
-use Rattle.drr.specs.declared.Found.{Found}
-use Rattle.drr.specs.declared.Found.TheVariants.{At, Nothing}
 use Rattle.drr.specs.Limits.{most_charges}
 use Rattle.drr.specs.State.{Line, deficit_of, waiting_of, oldest, oldest_charge}
 use Rattle.drr.specs.Facts.{Sound}
@@ -21,14 +20,14 @@ use Rattle.drr.proofs.Steps.{visit_passes, on_ends}
 use Rattle.drr.proofs.Sums.{over_flows}
 use Rattle.drr.proofs.Visits.{sum_low, grows}
 
-same_flow : (o : Found) (f g : ℕ) → o ≡ At f → o ≡ At g → f ≡ g
+same_flow : (o : Option ℕ) (f g : ℕ) → o ≡ Some f → o ≡ Some g → f ≡ g
 same_flow o f g p q = cc
 
-never : (o : Found) (f : ℕ) → o ≡ At f → o ≡ Nothing → ⊥
+never : (o : Option ℕ) (f : ℕ) → o ≡ Some f → o ≡ None → ⊥
 never o f p q = let z : ◌≡◌ {A = ℕ} 0 1 = cc in omega arith
 
 -- one flow cannot be sent from and be passed by
-never_both : (T : Table) (l : Line) (f g : ℕ) → next T l ≡ At f → next T l ≡ At g → oldest_charge T l f ≤ deficit_of (open_at T l f) f →
+never_both : (T : Table) (l : Line) (f g : ℕ) → next T l ≡ Some f → next T l ≡ Some g → oldest_charge T l f ≤ deficit_of (open_at T l f) f →
     deficit_of (open_at T l g) g < oldest_charge T l g → ⊥
 never_both T l f g p q enough short =
     let z : deficit_of (open_at T l f) f < oldest_charge T l f = subst (λ (x : ℕ). deficit_of (open_at T l x) x < oldest_charge T l x)
@@ -70,7 +69,7 @@ Is T v l r = Looks T v l r.answer r.line
 module _ (T : Table) (v : ℕ) (l : Line) (ok : Sound T l) (off : l.opened ≡ false) (goto2 : Line → Outcome)
     (on : (t : Line) → Sound T t → t.opened ≡ false → most_charges - over_flows t.deficits < most_charges - over_flows l.deficits →
     Is T (v + 1) t (goto2 t)) where
-  served_is : (f : ℕ) → next T l ≡ At f → (b : Bool) → leb (oldest_charge T l f) (deficit_of (open_at T l f) f) ≡ b →
+  served_is : (f : ℕ) → next T l ≡ Some f → (b : Bool) → leb (oldest_charge T l f) (deficit_of (open_at T l f) f) ≡ b →
       Is T v l (serve T b (v + 1) (open_at T l f) f goto2)
   served_is f e true q = sends e (leb-true _ _ q)
   served_is f e false q =
@@ -78,9 +77,9 @@ module _ (T : Table) (v : ℕ) (l : Line) (ok : Sound T l) (off : l.opened ≡ f
       let ok' = visit_passes T l ok f e off short in
       passes e short (on (closed (open_at T l f)) ok' refl (omega (arith, grows T l ok f e, sum_low T (closed (open_at T l f)) ok' refl)))
 
-  turned_is : (o : Found) → next T l ≡ o → Is T v l (turn T v l o goto2)
-  turned_is Nothing e = idles e
-  turned_is (At f) e = served_is f e (leb (oldest_charge T l f) (deficit_of (open_at T l f) f)) refl
+  turned_is : (o : Option ℕ) → next T l ≡ o → Is T v l (turn T v l o goto2)
+  turned_is None e = idles e
+  turned_is (Some f) e = served_is f e (leb (oldest_charge T l f) (deficit_of (open_at T l f) f)) refl
 
 -- the computation never runs short: its count is above the measure
 looks_for : (T : Table) (k v : ℕ) (l : Line) → Sound T l → l.opened ≡ false → most_charges - over_flows l.deficits < k →

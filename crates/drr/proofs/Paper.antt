@@ -9,10 +9,10 @@ use borrow.Author.Tests.{ltb-true, ltb-false, le-ltb}
 use lib.Dec.{ltb, leb, eqb}
 use lib.ListN.{set}
 use lib.Seq.{set-get_or}
+use Rattle.std.specs.Prelude.{Some, None}
 use Rattle.drr.specs.Limits.{most_waiting}
 use Rattle.drr.specs.declared.Table.{Table}
 use Rattle.drr.specs.declared.State.{State}
-use Rattle.drr.specs.declared.Found.TheVariants.{At, Nothing}
 use Rattle.drr.specs.State.{Line, maximum_of, deficit_of, waiting_of, line_in, state_from, fresh_line, fresh_state}
 use Rattle.drr.specs.Facts.{Sound, SoundState}
 use Rattle.drr.specs.Answers.{Answer, idle, accepted, arrival_refused, Outcome, outcome}
@@ -99,7 +99,7 @@ module _ {T : Table} (r : Reading) (l : Line) (ok : Sound T l) (off : l.opened �
       go inside j = j
 
   -- to the first that is not empty
-  to_found : (v k f g : ℕ) {a : Answer} {q : Point} {t : Memory} → k ≤ T.n → first_of T.n l.counts k f ≡ At g →
+  to_found : (v k f g : ℕ) {a : Answer} {q : Point} {t : Memory} → k ≤ T.n → first_of T.n l.counts k f ≡ Some g →
       ((j : ℕ) → From v (suc j) g a q t) → From v k (after T.n f) a q t
   unfolding first_of
   to_found v zero f g h e on = absurd (let z : ◌≡◌ {A = ℕ} 0 1 = cc in omega arith)
@@ -108,13 +108,13 @@ module _ {T : Table} (r : Reading) (l : Line) (ok : Sound T l) (off : l.opened �
       i : ℕ
       i = after T.n f
 
-      go : (b : Bool) → ltb 0 (waiting_of l i) ≡ b → cond b (At i) (first_of T.n l.counts k i) ≡ At g →
-          (first_of T.n l.counts k i ≡ At g → From v k (after T.n i) a q t) → From v (suc k) i a q t
+      go : (b : Bool) → ltb 0 (waiting_of l i) ≡ b → cond b (Some i) (first_of T.n l.counts k i) ≡ Some g →
+          (first_of T.n l.counts k i ≡ Some g → From v k (after T.n i) a q t) → From v (suc k) i a q t
       go true p e rest = let here : i ≡ g = cc in subst⁻¹ (λ (x : ℕ). From v (suc k) x a q t) here (on k)
       go false p e rest = passing i (after_in T.n f (omega arith)) (omega (arith, ltb-false 0 (waiting_of l i) p)) (rest e)
 
   -- or round the table
-  to_none : (v k f : ℕ) → k ≤ T.n → first_of T.n l.counts k f ≡ Nothing →
+  to_none : (v k f : ℕ) → k ≤ T.n → first_of T.n l.counts k f ≡ None →
       From v k (after T.n f) idle (line6 (onward T.n k (after T.n f))) (memory_of l)
   unfolding first_of
   to_none v zero f h e = idles
@@ -126,8 +126,8 @@ module _ {T : Table} (r : Reading) (l : Line) (ok : Sound T l) (off : l.opened �
       end : Point
       end = line6 (onward T.n k (after T.n i))
 
-      go : (b : Bool) → ltb 0 (waiting_of l i) ≡ b → cond b (At i) (first_of T.n l.counts k i) ≡ Nothing →
-          (first_of T.n l.counts k i ≡ Nothing → From v k (after T.n i) idle end (memory_of l)) →
+      go : (b : Bool) → ltb 0 (waiting_of l i) ≡ b → cond b (Some i) (first_of T.n l.counts k i) ≡ None →
+          (first_of T.n l.counts k i ≡ None → From v k (after T.n i) idle end (memory_of l)) →
           From v (suc k) i idle end (memory_of l)
       go true p e rest = absurd (let z : ◌≡◌ {A = ℕ} 0 1 = cc in omega arith)
       go false p e rest = passing i (after_in T.n f (omega arith)) (omega (arith, ltb-false 0 (waiting_of l i) p)) (rest e)

@@ -8,9 +8,8 @@ use native.Mathlib.Omega.{arith}
 use lib.Dec.{ltb}
 use borrow.Author.Tests.{ltb-true, ltb-false, lt-ltb, le-ltb}
 use lib.ListN.{get_or}
+use Rattle.std.specs.Prelude.{Option, Some, None}
 use Rattle.drr.specs.declared.Table.{Table}
-use Rattle.drr.specs.declared.Found.{Found}
-use Rattle.drr.specs.declared.Found.TheVariants.{At, Nothing}
 use Rattle.drr.specs.State.{Line}
 use Rattle.drr.specs.Pick.{after, first_of, next}
 use Rattle.drr.proofs.Bools.{by_test, same?, below?}
@@ -98,9 +97,9 @@ module _ (n p : ℕ) (p<n : p < n) where
   rank_least i l = ⊎_elim (λ a. omega (arith, round_past n p i a)) (λ b. omega (arith, round_back n p i b)) (below? p i)
 
   -- of the flows past m steps: the one found comes soonest of those that wait; where none is found, none waits
-  abbrev Says : List ℕ → ℕ → Found → Type 0
-  Says w m Nothing = (i : ℕ) → i < n → 0 < get_or w i 0 → p + m < round n p i → ⊥
-  Says w m (At x) = (i : ℕ) → i < n → 0 < get_or w i 0 → p + m < round n p i → round n p x ≤ round n p i
+  abbrev Says : List ℕ → ℕ → Option ℕ → Type 0
+  Says w m None = (i : ℕ) → i < n → 0 < get_or w i 0 → p + m < round n p i → ⊥
+  Says w m (Some x) = (i : ℕ) → i < n → 0 < get_or w i 0 → p + m < round n p i → round n p x ≤ round n p i
 
   search_says : (w : List ℕ) (k m f : ℕ) → m + k ≡ n → AtStep f m → Says w m (first_of n w k f)
   unfolding first_of AtStep
@@ -122,21 +121,21 @@ module _ (n p : ℕ) (p<n : p < n) where
           (λ ne. omega (arith, ne))
           (same? (round n p i) (p + (m + 1)))
 
-      go : (b : Bool) → ltb 0 (get_or w (after n f) 0) ≡ b → (o : Found) → Says w (m + 1) o → Says w m (cond b (At (after n f)) o)
+      go : (b : Bool) → ltb 0 (get_or w (after n f) 0) ≡ b → (o : Option ℕ) → Says w (m + 1) o → Says w m (cond b (Some (after n f)) o)
       go true q o h = λ i l some past. omega (arith, here)
-      go false q Nothing h = λ i l some past. h i l some (further q i l some past)
-      go false q (At x) h = λ i l some past. h i l some (further q i l some past)
+      go false q None h = λ i l some past. h i l some (further q i l some past)
+      go false q (Some x) h = λ i l some past. h i l some (further q i l some past)
 
-  pub search_best : (w : List ℕ) (x : ℕ) → first_of n w n p ≡ At x → (i : ℕ) → i < n → 0 < get_or w i 0 → round n p x ≤ round n p i
+  pub search_best : (w : List ℕ) (x : ℕ) → first_of n w n p ≡ Some x → (i : ℕ) → i < n → 0 < get_or w i 0 → round n p x ≤ round n p i
   unfolding AtStep
   search_best w x e i l some =
-      let h : Says w 0 (At x) = subst (Says w 0) e (search_says w n 0 p (omega arith) (p<n, inl (omega arith))) in
+      let h : Says w 0 (Some x) = subst (Says w 0) e (search_says w n 0 p (omega arith) (p<n, inl (omega arith))) in
       h i l some (omega (arith, rank_least i l))
 
-  pub search_none : (w : List ℕ) → first_of n w n p ≡ Nothing → (i : ℕ) → i < n → 0 < get_or w i 0 → ⊥
+  pub search_none : (w : List ℕ) → first_of n w n p ≡ None → (i : ℕ) → i < n → 0 < get_or w i 0 → ⊥
   unfolding AtStep
   search_none w e i l some =
-      let h : Says w 0 Nothing = subst (Says w 0) e (search_says w n 0 p (omega arith) (p<n, inl (omega arith))) in
+      let h : Says w 0 None = subst (Says w 0) e (search_says w n 0 p (omega arith) (p<n, inl (omega arith))) in
       h i l some (omega (arith, rank_least i l))
 
 -- ---- document 01's order: it keeps nothing in the line but the place
@@ -162,5 +161,5 @@ cyclic T =
       fit_put = λ l p x length k. p;
     }
   where
-    found : (l : Line) (x : ℕ) → next T l ≡ At x → x < T.n
+    found : (l : Line) (x : ℕ) → next T l ≡ Some x → x < T.n
     found l x e = (found_in T l x e).0

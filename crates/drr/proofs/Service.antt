@@ -9,8 +9,8 @@ use borrow.Author.Tests.{ltb-false, eq-eqb, ne_eqb, eqb-true}
 use lib.Dec.{ltb, eqb}
 use lib.ListN.{length, set, length-set}
 use lib.Seq.{get_or-set_same, get_or-set_other, set-get_or}
+use Rattle.std.specs.Prelude.{Some, None}
 use Rattle.drr.specs.declared.Table.{Table}
-use Rattle.drr.specs.declared.Found.TheVariants.{At, Nothing}
 use Rattle.drr.specs.State.{Line, quantum_of, maximum_charge, deficit_of, waiting_of, row_of, lengths_in, oldest, oldest_charge, shifted_of}
 use Rattle.drr.specs.Facts.{Sound}
 use Rattle.drr.specs.Answers.{Answer, idle, sent_as}
@@ -71,7 +71,7 @@ module _ (T : Table) {Fit : Line → Type 0} {rank : Line → ℕ → ℕ} (O : 
     inside x k = omega (arith, ok.flows_few, ok.shape.deficits_length)
 
     -- ---- steps 2 and 3
-    idling : l.opened ≡ false → next T l ≡ Nothing → Served l idle l
+    idling : l.opened ≡ false → next T l ≡ None → Served l idle l
     idling off e = record {
       run = λ _. start T.n (quantum_of T) i (view l);
       whole = total_none T.n;
@@ -82,7 +82,7 @@ module _ (T : Table) {Fit : Line → Type 0} {rank : Line → ℕ → ℕ} (O : 
       fit = fit;
     }
 
-    module _ (off : l.opened ≡ false) (x : ℕ) (e : next T l ≡ At x) where
+    module _ (off : l.opened ≡ false) (x : ℕ) (e : next T l ≡ Some x) where
       abbrev there : Line
       there = open_at T l x
 

@@ -4,11 +4,10 @@ use mathlib.Core.Bool.{Bool, true, false, not}
 use mathlib.Core.List.{List, [], ◌∷◌}
 use Prim.Native.Nat.{ℕ}
 use Rattle.drr.specs.declared.Row.{Row}
-use Rattle.drr.specs.declared.Common.{Common}
 use Rattle.drr.specs.declared.Table.{Table}
 use Rattle.drr.specs.declared.Line.{Line as StoredLine}
 use Rattle.drr.specs.declared.State.{State}
-use Rattle.drr.specs.State.{Line, common_in, table_of, line_of, spot_at, cells_in, rows_from, line_in, state_from}
+use Rattle.drr.specs.State.{Line, cells_in, rows_from, line_in, no_flows, state_from}
 use Rattle.drr.specs.Sound.{sound_state}
 use Rattle.drr.specs.Answers.{Answer, Outcome, outcome, reply, guarded}
 use Rattle.drr.proofs.Bools.{refuted, passed}
@@ -21,23 +20,13 @@ pub rows_back : (rows : List Row) → rows_from (cells_in rows) ≡ rows
 rows_back [] = refl
 rows_back (x ∷ xs) = ap (λ (r : List Row). x ∷ r) (rows_back xs)
 
--- a table taken apart
-pub table_apart : (T : Table) {c : Common} → c ≡ common_in T → table_of c T.quanta T.maxima ≡ T
-table_apart T is = ap (λ (k : Common). table_of k T.quanta T.maxima) is
-
--- a line taken apart, with its rows as cells
-pub line_apart : (l : StoredLine) (cells : List (List ℕ)) → cells ≡ cells_in l.rows →
-    line_of l.counts l.sums l.deficits cells (spot_at l.place l.opened) ≡ line_in l
-line_apart l cells is = rw is
-
--- a line put together
-pub line_whole : (cs ws ds : List ℕ) (cells : List (List ℕ)) (p : ℕ) (o : Bool) (rows : List Row) → rows ≡ rows_from cells →
-    line_in (record { deficits = ds; counts = cs; sums = ws; place = p; opened = o; rows = rows }) ≡ line_of cs ws ds cells (spot_at p o)
-line_whole cs ws ds cells p o rows is = rw (is, cells_back cells)
-
 -- the state made of the line in a stored line is the state with that line
 pub state_back : (T : Table) (l : StoredLine) → state_from T (line_in l) ≡ record { table = T; line = l }
 state_back T l = rw (rows_back l.rows)
+
+-- two stored lines that say the same are one
+pub line_one : (a b : StoredLine) → line_in a ≡ line_in b → a ≡ b
+line_one a b e = ap (λ (s : State). s.line) (sym (state_back no_flows a) ∙ ap (state_from no_flows) e ∙ state_back no_flows b)
 
 -- and back: the line that stands in the state made of it
 pub line_back : (T : Table) (l : Line) → line_in (state_from T l).line ≡ l

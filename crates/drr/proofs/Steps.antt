@@ -9,11 +9,10 @@ use borrow.Author.Tests.{ne_eqb, eq-eqb, lt-ltb, le-ltb}
 use lib.Dec.{eqb}
 use lib.ListN.{length, get_or, set, length-set, get_or-eq_default}
 use lib.Seq.{get_or-set_same, get_or-set_other, set-set}
+use Rattle.std.specs.Prelude.{Some}
 use Rattle.drr.specs.Limits.{most_maximum, most_waiting, most_bytes}
 use Rattle.drr.specs.declared.Table.{Table}
-use Rattle.drr.specs.declared.Found.TheVariants.{At}
 use Rattle.drr.specs.State.{Line, quantum_of, maximum_of, deficit_of, waiting_of, row_of, charge, oldest_charge, with_deficit, with_row}
-use Rattle.drr.specs.State.{line_of, spot_at}
 use Rattle.drr.specs.State.{sum_of, oldest, with_visit, shifted_of}
 use Rattle.drr.specs.Sound.{visited}
 use Rattle.drr.specs.Facts.{Credit, FlowFacts, Flow, Shaped, Sound}
@@ -145,7 +144,7 @@ module _ (T : Table) (l : Line) (ok : Sound T l) (p : ℕ) (in_table : p < T.n) 
   row_here row = get_or-set_same l.rows p row [] (omega (arith, low, ok.shape.rows_length))
 
   changed_shape : (ds : List ℕ) → length ds ≡ 16 → (c w : ℕ) (row : List ℕ) → length row ≡ 32 → (g : ℕ) (o : Bool) →
-      Shaped T (line_of (set l.counts p c) (set l.sums p w) ds (set l.rows p row) (spot_at g o))
+      Shaped T (with_visit (with_row (record l { deficits = ds }) p c w row) g o)
   changed_shape ds size c w row long g o =
       let z = ok.shape in
       record {
@@ -251,15 +250,15 @@ module _ (T : Table) (l : Line) (ok : Sound T l) (p : ℕ) (in_table : p < T.n) 
     }
 
 -- ---- a visit to the flow that the search finds
-pub found_in : (T : Table) (l : Line) (f : ℕ) → next T l ≡ At f → (f < T.n) × (0 < waiting_of l f)
+pub found_in : (T : Table) (l : Line) (f : ℕ) → next T l ≡ Some f → (f < T.n) × (0 < waiting_of l f)
 unfolding first_of
 found_in T l f at = found_waits T.n l.counts T.n _ f (some T.n _ at) at
   where
-    some : (n p : ℕ) → first_of n l.counts n p ≡ At f → 0 < n
+    some : (n p : ℕ) → first_of n l.counts n p ≡ Some f → 0 < n
     some zero p e = absurd (let z : ◌≡◌ {A = ℕ} 0 1 = cc in omega arith)
     some (suc n) p e = omega arith
 
-module _ (T : Table) (l : Line) (ok : Sound T l) (f : ℕ) (at : next T l ≡ At f) where
+module _ (T : Table) (l : Line) (ok : Sound T l) (f : ℕ) (at : next T l ≡ Some f) where
   found : (f < T.n) × (0 < waiting_of l f)
   found = found_in T l f at
 

@@ -5,8 +5,8 @@ use mathlib.Core.Logic.{⊎_elim}
 use Prim.Native.Nat.{ℕ, ◌+◌, ◌-◌, ◌≤◌, ◌<◌}
 use native.Mathlib.Omega.{arith}
 use lib.Dec.{eqb}
+use Rattle.std.specs.Prelude.{Some}
 use Rattle.drr.specs.declared.Table.{Table}
-use Rattle.drr.specs.declared.Found.TheVariants.{At}
 use Rattle.drr.specs.Limits.{most_flows, most_maximum, most_charge, most_charges}
 use Rattle.drr.specs.State.{Line, quantum_of, deficit_of, waiting_of, oldest, oldest_charge}
 use Rattle.drr.specs.Facts.{Sound}
@@ -43,7 +43,7 @@ module _ (T : Table) (l : Line) (ok : Sound T l) where
     pub sum_low : over_flows l.deficits < most_charges
     sum_low = omega (arith, sum_most l.deficits (most_charge - 1) deficit_most)
 
-  pub grows : (f : ℕ) → next T l ≡ At f → over_flows l.deficits + 1 ≤ over_flows (open_at T l f).deficits
+  pub grows : (f : ℕ) → next T l ≡ Some f → over_flows l.deficits + 1 ≤ over_flows (open_at T l f).deficits
   grows f at =
       let in_table = (found_in T l f at).0 in
       let low : f < most_flows = omega (arith, ok.flows_few) in

@@ -5,8 +5,8 @@ use mathlib.Core.Logic.{⊎_elim}
 use Prim.Native.Nat.{ℕ, ◌+◌, ◌-◌, ◌≤◌, ◌<◌}
 use native.Mathlib.Omega.{arith}
 use lib.ListN.{length, replicate}
+use Rattle.std.specs.Prelude.{None}
 use Rattle.drr.specs.declared.Table.{Table}
-use Rattle.drr.specs.declared.Found.TheVariants.{Nothing}
 use Rattle.drr.specs.Limits.{most_flows, most_maximum}
 use Rattle.drr.specs.State.{Line, waiting_of, oldest, deficit_of, fresh_line}
 use Rattle.drr.specs.Facts.{Sound}
@@ -41,7 +41,7 @@ sent_waits : (T : Table) (l : Line) (f : ℕ) → f < most_flows → length l.co
 sent_waits T l f inside long some = omega (arith, sum_set l.counts f (waiting_of l f - 1) inside (omega arith))
 
 -- where the search finds nothing, nothing waits
-none_waits : (T : Table) (l : Line) → Sound T l → next T l ≡ Nothing → waiting_all l ≡ 0
+none_waits : (T : Table) (l : Line) → Sound T l → next T l ≡ None → waiting_all l ≡ 0
 none_waits T l ok e = sum_none l.counts (λ j low. ⊎_elim
     (λ in_table. ⊎_elim
     (λ p. ⊎_elim

@@ -1,5 +1,5 @@
--- What document 01 gives as the answer of a call: for each case of an enum its refusal number and its other numbers.
-use Rattle.std.specs.Prelude.{ℕ, Bool, true, false, cond, List, [], ◌∷◌, get_or}
+-- What document 01 gives as the answer of a call: for each case of an answer its refusal number and its other numbers.
+use Rattle.std.specs.Prelude.{ℕ, Bool, true, false, cond, List, [], ◌∷◌, get_or, Result, Ok, Err}
 use Rattle.drr.specs.declared.State.{State}
 use Rattle.drr.specs.declared.Refusal.{Refusal}
 use Rattle.drr.specs.declared.Refusal.TheVariants.{UnknownFlow, NoLength, OverMaximum, RowFull}
@@ -7,10 +7,7 @@ use Rattle.drr.specs.declared.Refusal.TheVariants.{FlowCount, QuantumRange, Maxi
 use Rattle.drr.specs.declared.Refusal.TheVariants.{FileLength, OverheadRange, EventCount, TablePlace, TickOrder, ListShort}
 use Rattle.drr.specs.declared.PickAnswer.{PickAnswer}
 use Rattle.drr.specs.declared.PickAnswer.TheVariants as picks
-use Rattle.drr.specs.declared.ArrivalAnswer.{ArrivalAnswer}
-use Rattle.drr.specs.declared.ArrivalAnswer.TheVariants as arrivals
-use Rattle.drr.specs.declared.Verdict.{Verdict}
-use Rattle.drr.specs.declared.Verdict.TheVariants as verdicts
+use Rattle.drr.specs.declared.Refused.{Refused}
 use Rattle.drr.specs.State.{Line, state_from}
 use Rattle.drr.specs.Sound.{sound_state}
 
@@ -75,9 +72,9 @@ accepted = answer 0 []
 abbrev pub arrival_refused : ℕ → Answer
 arrival_refused number = answer number []
 
-abbrev pub arrival_paper : ArrivalAnswer → Answer
-arrival_paper arrivals.Accepted = accepted
-arrival_paper (arrivals.Refused why) = arrival_refused (number_of why)
+abbrev pub arrival_paper : Result (Unit {0}) Refusal → Answer
+arrival_paper (Ok done) = accepted
+arrival_paper (Err why) = arrival_refused (number_of why)
 
 -- "The place is the number, from 0, of the record at fault where a refusal is given record by record .. else 0"
 abbrev pub fine : Answer
@@ -86,9 +83,9 @@ fine = answer 0 (0 ∷ [])
 abbrev pub refused_at : ℕ → ℕ → Answer
 refused_at number place = answer number (place ∷ [])
 
-abbrev pub verdict_paper : Verdict → Answer
-verdict_paper verdicts.Fine = fine
-verdict_paper (verdicts.Refused why place) = refused_at (number_of why) place
+abbrev pub verdict_paper : {A : Type 0} → Result A Refused → Answer
+verdict_paper (Ok made) = fine
+verdict_paper (Err fault) = refused_at (number_of fault.why) fault.place
 
 -- an answer beside the line after the call
 pub record Outcome : Type 0 where

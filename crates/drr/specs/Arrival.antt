@@ -1,12 +1,10 @@
 -- "Arrival and pick": the arrival, with its refusals in the order 8, 1, 2, 3, 4.
-use Rattle.std.specs.Prelude.{ℕ, ◌+◌, ◌≡◌, cond, List, ltb, leb, eqb, set}
+use Rattle.std.specs.Prelude.{ℕ, ◌+◌, cond, ltb, leb, eqb, set}
 use Rattle.drr.specs.declared.Table.{Table}
 use Rattle.drr.specs.declared.State.{State}
-use Rattle.drr.specs.declared.Spot.{Spot}
-use Rattle.drr.specs.declared.Common.{Common}
 use Rattle.drr.specs.Limits.{most_waiting}
-use Rattle.drr.specs.State.{Line, table_of, line_of, maximum_of, waiting_of, sum_of, row_of, with_row, line_in}
-use Rattle.drr.specs.Answers.{Answer, accepted, arrival_refused, Outcome, outcome, Reply, guarded}
+use Rattle.drr.specs.State.{Line, maximum_of, waiting_of, sum_of, row_of, with_row, line_in}
+use Rattle.drr.specs.Answers.{accepted, arrival_refused, Outcome, outcome, Reply, guarded}
 
 -- "An accepted arrival puts the length at the end of its flow's row and changes nothing else" but E1's sum, which grows by it.
 abbrev pub put : Line → ℕ → ℕ → Line
@@ -20,15 +18,6 @@ arrival_of T l f length =
     (cond (ltb (maximum_of T f) length) (outcome (arrival_refused 3) l)
     (cond (leb most_waiting (waiting_of l f)) (outcome (arrival_refused 4) l)
     (outcome accepted (put l f length)))))
-
--- a booking into counts, sums and rows answers `a` and leaves counts', sums' and rows', as the arrival does whatever the quanta, the
--- deficits and the visit, which it does not read
-abbrev pub Booked :
-    Common → List ℕ → List ℕ → List ℕ → List (List ℕ) → ℕ → ℕ → Answer → List ℕ → List ℕ → List (List ℕ) → Type 0
-Booked c maxima counts sums rows f length a counts' sums' rows' =
-    (quanta deficits : List ℕ) (spot : Spot) →
-    outcome a (line_of counts' sums' deficits rows' spot)
-    ≡ arrival_of (table_of c quanta maxima) (line_of counts sums deficits rows spot) f length
 
 -- the public arrival, of any state and any numbers
 abbrev pub arrival_reply : State → ℕ → ℕ → Reply

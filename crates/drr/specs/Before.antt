@@ -1,11 +1,9 @@
 -- Document 01's setup, soundness, pick and figures without an overhead, "for document 01 charges the frame alone": where a definition
 -- speaks of a charge, here it is the length; the count of visits, which on a sound line never matters, is the one in force. With an
 -- overhead of 0 they are those in force (proofs/Before.antt), and no other definition stands on these.
-use Rattle.std.specs.Prelude.{Bool, true, false, cond, not, ◌&&◌, ◌||◌, List, ℕ, zero, suc, ◌+◌, ◌*◌, ◌-◌, ltb, leb, eqb, length}
+use Rattle.std.specs.Prelude.{Bool, true, false, cond, not, ◌&&◌, ◌||◌, List, ℕ, zero, suc, ◌+◌, ◌*◌, ◌-◌, ltb, leb, eqb, length, Option, Some, None}
 use Rattle.drr.specs.declared.FlowRecord.{FlowRecord}
 use Rattle.drr.specs.declared.Table.{Table}
-use Rattle.drr.specs.declared.Found.{Found}
-use Rattle.drr.specs.declared.Found.TheVariants.{At, Nothing}
 use Rattle.drr.specs.Limits.{most_flows, most_waiting}
 use Rattle.drr.specs.State.{Line, quantum_of, maximum_of, deficit_of, waiting_of, sum_of, row_of, oldest, with_deficit, with_row, shifted_of}
 use Rattle.drr.specs.Sound.{all, numbersb, visited, cellsb, sumb}
@@ -47,9 +45,9 @@ abbrev pub serve : Bool → ℕ → Line → ℕ → (Line → Outcome) → Outc
 serve true v l f goto2 = sending l f v
 serve false v l f goto2 = goto2 (closed l)
 
-abbrev pub turn : Table → ℕ → Line → Found → (Line → Outcome) → Outcome
-turn T v l Nothing goto2 = outcome idle l
-turn T v l (At f) goto2 = serve (leb (oldest l f) (deficit_of (open_at T l f) f)) (v + 1) (open_at T l f) f goto2
+abbrev pub turn : Table → ℕ → Line → Option ℕ → (Line → Outcome) → Outcome
+turn T v l None goto2 = outcome idle l
+turn T v l (Some f) goto2 = serve (leb (oldest l f) (deficit_of (open_at T l f) f)) (v + 1) (open_at T l f) f goto2
 
 unfoldable pub look_for : Table → ℕ → ℕ → Line → Outcome
 look_for T zero v l = outcome idle l

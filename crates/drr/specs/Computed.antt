@@ -1,10 +1,8 @@
 -- The pick as a function, which contracts name. On every sound line it is the one answer of the relation in Pick.antt
 -- (proofs/One.antt).
-use Rattle.std.specs.Prelude.{Bool, true, false, ◌&&◌, ℕ, zero, suc, ◌+◌, ltb, leb}
+use Rattle.std.specs.Prelude.{Bool, true, false, ◌&&◌, ℕ, zero, suc, ◌+◌, ltb, leb, Option, Some, None}
 use Rattle.drr.specs.declared.Table.{Table}
 use Rattle.drr.specs.declared.State.{State}
-use Rattle.drr.specs.declared.Found.{Found}
-use Rattle.drr.specs.declared.Found.TheVariants.{At, Nothing}
 use Rattle.drr.specs.Limits.{most_charges}
 use Rattle.drr.specs.State.{Line, deficit_of, waiting_of, oldest, oldest_charge, line_in}
 use Rattle.drr.specs.Answers.{idle, sent_as, pick_refused, Outcome, outcome, Reply, guarded}
@@ -20,9 +18,9 @@ serve T true v l f goto2 = sending T l f v
 serve T false v l f goto2 = goto2 (closed l)
 
 -- steps 2 and 3 once, with v visits opened before; `goto2` is what a return to step 2 gives
-abbrev pub turn : Table → ℕ → Line → Found → (Line → Outcome) → Outcome
-turn T v l Nothing goto2 = outcome idle l
-turn T v l (At f) goto2 = serve T (leb (oldest_charge T l f) (deficit_of (open_at T l f) f)) (v + 1) (open_at T l f) f goto2
+abbrev pub turn : Table → ℕ → Line → Option ℕ → (Line → Outcome) → Outcome
+turn T v l None goto2 = outcome idle l
+turn T v l (Some f) goto2 = serve T (leb (oldest_charge T l f) (deficit_of (open_at T l f) f)) (v + 1) (open_at T l f) f goto2
 
 -- steps 2 and 3, with v visits opened before, and at most k more. On a sound line this count never matters: `look_unfolds`, in
 -- proofs/One.antt, is the equation without it.

@@ -3,7 +3,7 @@
 use Rattle.std.specs.Prelude.{◌≡◌, cond, false, List, [], ◌∷◌, ℕ, zero, suc, ◌+◌, ◌-◌, ◌≤◌, ◌<◌, get_or, set, replicate}
 use Rattle.drr.specs.declared.Table.{Table}
 use Rattle.drr.specs.declared.State.{State}
-use Rattle.drr.specs.State.{Line, quantum_of, charge, shifted_of, spot_at, line_of, line_in}
+use Rattle.drr.specs.State.{Line, quantum_of, charge, shifted_of, line_in}
 use Rattle.drr.specs.Answers.{Answer, idle, sent_as}
 use Rattle.drr.specs.Arrival.{arrival_of}
 use Rattle.drr.specs.Pick.{after}
@@ -115,7 +115,14 @@ point_in s = point_of s.table (line_in s.line)
 
 -- 01's arrival at the queues: neither its answer nor the queues after it depend on place, visit or sums
 abbrev pub queues : Memory → Line
-queues m = line_of m.counts (replicate 16 0) m.deficits m.rows (spot_at 0 false)
+queues m = record {
+  deficits = m.deficits;
+  counts = m.counts;
+  sums = replicate 16 0;
+  rows = m.rows;
+  place = 0;
+  opened = false;
+}
 
 -- 01 books when the line is free: packets come where the listing has not begun, has sent one, or is idle
 pub data Serves (T : Table) (r : Reading) : Point → Memory → List Call → List Answer → Point → Memory → Type 0 where

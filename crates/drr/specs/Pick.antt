@@ -1,8 +1,6 @@
 -- "A pick does this": steps 1, 2 and 3, as a relation between a line, the answer and the line after it.
-use Rattle.std.specs.Prelude.{◌≡◌, true, false, cond, List, ℕ, zero, suc, ◌+◌, ◌-◌, ◌≤◌, ◌<◌, ltb, get_or}
+use Rattle.std.specs.Prelude.{◌≡◌, true, false, cond, List, ℕ, zero, suc, ◌+◌, ◌-◌, ◌≤◌, ◌<◌, ltb, get_or, Option, Some, None}
 use Rattle.drr.specs.declared.Table.{Table}
-use Rattle.drr.specs.declared.Found.{Found}
-use Rattle.drr.specs.declared.Found.TheVariants.{At, Nothing}
 use Rattle.drr.specs.State.{Line, quantum_of, deficit_of, waiting_of, row_of, oldest, oldest_charge, with_deficit, with_row, with_visit}
 use Rattle.drr.specs.State.{sum_of, shifted_of}
 use Rattle.drr.specs.Answers.{Answer, idle, sent_as}
@@ -12,13 +10,13 @@ abbrev pub after : ℕ → ℕ → ℕ
 after n f = cond (ltb (f + 1) n) (f + 1) 0
 
 -- the first flow with a packet waiting among the k flows that follow f, round a table of n
-unfoldable pub first_of : ℕ → List ℕ → ℕ → ℕ → Found
-first_of n counts zero f = Nothing
+unfoldable pub first_of : ℕ → List ℕ → ℕ → ℕ → Option ℕ
+first_of n counts zero f = None
 first_of n counts (suc k) f =
-    cond (ltb 0 (get_or counts (after n f) 0)) (At (after n f)) (first_of n counts k (after n f))
+    cond (ltb 0 (get_or counts (after n f) 0)) (Some (after n f)) (first_of n counts k (after n f))
 
 -- step 2: "look from the flow after the place, round the table, the place itself last, for the first flow with a packet waiting"
-abbrev pub next : Table → Line → Found
+abbrev pub next : Table → Line → Option ℕ
 next T l = first_of T.n l.counts T.n l.place
 
 -- step 3: "Open a visit to that flow: it becomes the place, its deficit grows by its quantum"
@@ -42,12 +40,12 @@ sent T l f =
 -- steps 2 and 3, where v visits have been opened so far in this pick
 pub data Looks (T : Table) : ℕ → Line → Answer → Line → Type 0 where
   -- "If there is none, the answer is idle and the place stays."
-  idles : {v : ℕ} {l : Line} → next T l ≡ Nothing → Looks T v l idle l
+  idles : {v : ℕ} {l : Line} → next T l ≡ None → Looks T v l idle l
   -- "the count of visits grows by one. If its oldest length", E2: its oldest charge, "is at most the deficit, send it."
-  sends : {v : ℕ} {l : Line} {f : ℕ} → next T l ≡ At f → oldest_charge T l f ≤ deficit_of (open_at T l f) f →
+  sends : {v : ℕ} {l : Line} {f : ℕ} → next T l ≡ Some f → oldest_charge T l f ≤ deficit_of (open_at T l f) f →
       Looks T v l (sent_as f (oldest l f) (deficit_of (sent T (open_at T l f) f) f) (v + 1)) (sent T (open_at T l f) f)
   -- "Otherwise close the visit, keep the deficit, and go to 2."
-  passes : {v : ℕ} {l : Line} {f : ℕ} {a : Answer} {t : Line} → next T l ≡ At f → deficit_of (open_at T l f) f < oldest_charge T l f →
+  passes : {v : ℕ} {l : Line} {f : ℕ} {a : Answer} {t : Line} → next T l ≡ Some f → deficit_of (open_at T l f) f < oldest_charge T l f →
       Looks T (v + 1) (closed (open_at T l f)) a t → Looks T v l a t
 
 -- "where the flow has a packet waiting and its oldest length", E2: its oldest charge, "is at most the deficit"

@@ -1,12 +1,10 @@
 -- "A state is sound when": the test, clause by clause. Facts.antt has the same as facts.
 use Rattle.std.specs.Prelude.{ℕ, suc, zero, Bool, true, not, ◌&&◌, ◌||◌, ltb, leb, eqb, get_or}
-use Rattle.drr.specs.declared.Common.{Common}
-use Rattle.drr.specs.declared.Spot.{Spot}
 use Rattle.drr.specs.declared.Table.{Table}
 use Rattle.drr.specs.declared.State.{State}
 use Rattle.drr.specs.Limits.{most_flows, least_quantum, most_quantum, least_maximum, most_maximum, most_overhead, most_waiting}
 use Rattle.drr.specs.State.{Line, quantum_of, maximum_of, deficit_of, waiting_of, sum_of, row_of, bytes_waiting}
-use Rattle.drr.specs.State.{oldest_charge, common_in, spot_at, line_in}
+use Rattle.drr.specs.State.{oldest_charge, line_in}
 
 -- the test p passes at each number below k
 unfoldable pub all : ℕ → (ℕ → Bool) → Bool
@@ -19,10 +17,10 @@ withinb least most x = leb least x && leb x most
 
 -- "n is 0 to 16; place is below n, or 0 and closed if n is 0"; "any other stored number that setup limits", the overhead, is in range,
 -- and 0 if n is 0: "The empty table is n = 0 with everything zero and closed"
-abbrev pub headb : Common → Spot → Bool
-headb c spot =
-    leb c.n most_flows && leb c.overhead most_overhead
-    && (ltb spot.place c.n || (eqb c.n 0 && eqb c.overhead 0 && eqb spot.place 0 && not spot.opened))
+abbrev pub headb : Table → Line → Bool
+headb T l =
+    leb T.n most_flows && leb T.overhead most_overhead
+    && (ltb l.place T.n || (eqb T.n 0 && eqb T.overhead 0 && eqb l.place 0 && not l.opened))
 
 -- "quanta, maxima, waiting counts .. are in range"
 abbrev pub quantumb : ℕ → Bool
@@ -67,13 +65,21 @@ cellsb T l f k = cellb k (waiting_of l f) (maximum_of T f) (get_or (row_of l f) 
 abbrev pub sumb : Line → ℕ → Bool
 sumb l f = eqb (sum_of l f) (bytes_waiting l f)
 
+-- the credit of flow f, and its numbers
+abbrev pub flow_creditb : Table → Line → ℕ → Bool
+flow_creditb T l f = creditb (visited l f) (deficit_of l f) (quantum_of T f) (waiting_of l f) (oldest_charge T l f)
+
+abbrev pub flow_numbersb : Table → Line → ℕ → Bool
+flow_numbersb T l f =
+    numbersb (ltb f T.n) (visited l f) (quantum_of T f) (maximum_of T f) (deficit_of l f) (waiting_of l f) (oldest_charge T l f)
+
 unfoldable pub flowb : Table → Line → ℕ → Bool
 flowb T l f =
-    numbersb (ltb f T.n) (visited l f) (quantum_of T f) (maximum_of T f) (deficit_of l f) (waiting_of l f) (oldest_charge T l f)
+    flow_numbersb T l f
     && all most_waiting (cellsb T l f) && sumb l f
 
 unfoldable pub soundb : Table → Line → Bool
-soundb T l = headb (common_in T) (spot_at l.place l.opened) && all most_flows (flowb T l)
+soundb T l = headb T l && all most_flows (flowb T l)
 
 abbrev pub sound_state : State → Bool
 sound_state s = soundb s.table (line_in s.line)

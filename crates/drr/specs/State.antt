@@ -5,7 +5,6 @@ use Rattle.drr.specs.declared.Table.{Table}
 use Rattle.drr.specs.declared.Row.{Row}
 use Rattle.drr.specs.declared.Line.{Line as StoredLine}
 use Rattle.drr.specs.declared.State.{State}
-use Rattle.drr.specs.declared.Spot.{Spot}
 
 -- "The state holds n, quanta, maxima", E2: "The table gets an overhead per packet": the table, which setup fixes. Its numbers that are
 -- no flow's own go in one record.
@@ -27,15 +26,6 @@ pub record Line : Type 0 where
   pub rows : List (List ℕ)
   pub place : ℕ
   pub opened : Bool
-
--- the place, and whether its visit is open
-abbrev pub spot_at : ℕ → Bool → Spot
-spot_at place opened = record { place = place; opened = opened }
-
--- the line that stands in arrays
-abbrev pub line_of : List ℕ → List ℕ → List ℕ → List (List ℕ) → Spot → Line
-line_of counts sums deficits rows spot =
-    record { deficits = deficits; counts = counts; sums = sums; rows = rows; place = spot.place; opened = spot.opened }
 
 -- ---- reading: flow f's numbers
 abbrev pub quantum_of : Table → ℕ → ℕ
@@ -125,8 +115,7 @@ fresh_line n =
 abbrev pub no_flows : Table
 no_flows = table_of (common 0 0) (replicate 16 0) (replicate 16 0)
 
--- ---- the State of the code: its rows as lists, and back. The public State has sixteen row structs, the engine an array of arrays;
--- both are a list of lists here.
+-- ---- the State of the code: its sixteen row structs as a list of lists, and back
 abbrev pub lengths_of : Row → List ℕ
 lengths_of r = r.lengths
 

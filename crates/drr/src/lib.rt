@@ -47,7 +47,7 @@ pub struct Terms {
     pub overhead: u32,
 }
 
-// The numbers of a table that are no flow's own, as the inner functions take them.
+// The numbers of a table that are no flow's own.
 #[derive(Clone, Copy)]
 pub struct Common {
     pub n: usize,
@@ -91,20 +91,6 @@ pub struct State {
     pub line: Line,
 }
 
-// The place, and whether its visit is open.
-#[derive(Clone, Copy)]
-pub struct Spot {
-    pub place: usize,
-    pub opened: bool,
-}
-
-// The flow that a search finds.
-#[derive(Clone, Copy)]
-pub enum Found {
-    At(usize),
-    Nothing,
-}
-
 // Why something is refused; `refusal_number` gives document 01's number.
 #[derive(Clone, Copy)]
 pub enum Refusal {
@@ -132,58 +118,30 @@ pub enum PickAnswer {
     Refused(Refusal),
 }
 
-// What an arrival is told.
+// Why what is judged record by record is refused, and the number of the record at fault.
 #[derive(Clone, Copy)]
-pub enum ArrivalAnswer {
-    Accepted,
-    Refused(Refusal),
+pub struct Refused {
+    pub why: Refusal,
+    pub place: usize,
 }
 
-// What is judged record by record: why it is refused, and the number of the record at fault.
-#[derive(Clone, Copy)]
-pub enum Verdict {
-    Fine,
-    Refused(Refusal, usize),
+// "Else 0": the place where nothing is judged record by record.
+impl From<Refusal> for Refused {
+    ghost from_gives = { λ why fault. fault ≡ record { why = why; place = 0 } };
+
+    fn from(why: Refusal) -> Refused {
+        Refused { why, place: 0 }
+    }
 }
 
-// Each answer beside the table, the state or the line after the call.
+// What a call answers, and the state after it: a refusal too leaves a state.
 #[derive(Clone, Copy)]
-pub struct Tabled {
-    pub answer: Verdict,
-    pub table: Table,
-}
-
-#[derive(Clone, Copy)]
-pub struct Made {
-    pub answer: Verdict,
+pub struct Answered<A> {
+    pub answer: A,
     pub state: State,
 }
 
-#[derive(Clone, Copy)]
-pub struct Picked {
-    pub answer: PickAnswer,
-    pub state: State,
-}
-
-#[derive(Clone, Copy)]
-pub struct Arrived {
-    pub answer: ArrivalAnswer,
-    pub state: State,
-}
-
-#[derive(Clone, Copy)]
-pub struct PickedLine {
-    pub answer: PickAnswer,
-    pub line: Line,
-}
-
-#[derive(Clone, Copy)]
-pub struct ArrivedLine {
-    pub answer: ArrivalAnswer,
-    pub line: Line,
-}
-
-// What the engine is given of a table beside its arrays.
+// The numbers of a table that are no flow's own.
 pub fn common_of(table: Table) -> Common
     ensures { result ≡ common_in table }
 {

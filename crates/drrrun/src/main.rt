@@ -4,7 +4,6 @@
 // wrong, and prints nothing.
 #![tactic(auto)]
 
-ghost use Rattle.std.specs.Prelude.{◌≤◌, length};
 ghost use Rattle.io.specs.Counts.{IsPrefixLen};
 
 use std::env::{Env, FillError};
@@ -14,47 +13,27 @@ use std::env::{Env, FillError};
 enum Asked {
     Listing,
     Waiting,
-    Nothing,
 }
 
-// How many arguments the program was started with, its own name among them.
-fn arg_count(rt: &impl Env) -> usize {
-    let mut start = [0u8; 1];
-    for i in 0..usize::MAX {
-        if let Err(FillError::NotPresent) = rt.arg(i, &mut start) {
-            return i;
+// What is asked for, if no argument is wrong.
+fn asked_for(rt: &impl Env) -> Option<Asked> {
+    // an option has no more than 32 bytes
+    let mut word = [0; 32];
+    let first = rt.arg(1, &mut word);
+    let second = rt.arg(2, &mut [0]);
+    match (first, second) {
+        (Err(FillError::NotPresent), _) => Some(Asked::Listing),
+        (Ok(n), Err(FillError::NotPresent)) if text::same(&word[..n], b"--waiting") => Some(
+            Asked::Waiting,
+        ),
+        _ => {
+            io::write_all(
+                2,
+                b"drrrun: takes one argument at most, and that is --waiting\n",
+            );
+            None
         }
     }
-    usize::MAX
-}
-
-// Puts argument i at the start of a lent buffer, and answers how many bytes it has; 0 where there is none,
-// or it has more than the buffer.
-fn arg(rt: &impl Env, i: usize, word: &mut [u8]) -> usize
-    ensures { result ≤ length word.new }
-{
-    match rt.arg(i, word) {
-        Ok(n) => n,
-        Err(_) => 0,
-    }
-}
-
-fn asked_for(rt: &impl Env) -> Asked {
-    let words = arg_count(rt);
-    if words < 2 {
-        return Asked::Listing;
-    }
-    // an option has no more than 32 bytes
-    let mut word = [0u8; 32];
-    let n = arg(rt, 1, &mut word);
-    if (words == 2) & text::same(&word[..n], b"--waiting") {
-        return Asked::Waiting;
-    }
-    io::write_all(
-        2,
-        b"drrrun: takes one argument at most, and that is --waiting\n",
-    );
-    Asked::Nothing
 }
 
 // What is printed of a file, at the start of a lent buffer, and how many bytes it has.
@@ -64,19 +43,17 @@ fn printed(asked: Asked, file: &[u8], text: &mut [u8]) -> usize
     match asked {
         Asked::Listing => answers::run_text(file, text),
         Asked::Waiting => answers::run_waiting_text(file, text),
-        Asked::Nothing => 0,
     }
 }
 
 fn main(rt: HostRuntime) {
-    let asked = asked_for(&rt);
-    if let Asked::Nothing = asked {
+    let Some(asked) = asked_for(&rt) else {
         return;
-    }
+    };
     // one byte more than a run file may have, so that a file too long is seen to be
-    let mut file = [0u8; 12289];
+    let mut file = [0; 12289];
     let n = io::read_full(0, &mut file);
-    let mut text = [0u8; 132204];
+    let mut text = [0; answers::WAITING_ROOM];
     let size = printed(asked, &file[..n], &mut text);
     io::write_all(1, &text[..size]);
 }

@@ -4,9 +4,9 @@
 
 fn main() {
     // one byte more than a run file may have, so that a file too long is seen to be
-    let mut file = [0u8; 12289];
+    let mut file = [0; 12289];
     let n = io::read_full(0, &mut file);
-    let mut text = [0u8; 71438];
+    let mut text = [0; textform::show::SHOWN_ROOM];
     let size = textform::show::show_text(&file[..n], &mut text);
     io::write_all(1, &text[..size]);
 }

@@ -1,4 +1,4 @@
 -- Laws that several functions' proofs cite.
+pub mod Rows
 pub mod Tests
-pub mod Sends
 pub mod Loop

@@ -1,37 +1,28 @@
-// The scheduler's steps over lent arrays, each done once: the soundness test, the booking of an
-// arrival, and the pick. The public functions lend a State's parts to it, a run its own arrays.
+// The scheduler's steps over a lent table and line, each done once: the soundness test, the booking of an
+// arrival, and the pick. The public functions lend a State's table and line to it, a run its own.
 //
-// The arrays are those of a table (quanta, maxima, and its other numbers in `common`) and of a line (counts,
-// sums, deficits, rows, and the place with its visit in `spot`). The contracts speak of them as `table_of ..` and
-// `line_of ..`.
+// The contracts speak of a stored line as `line_in line`, which has its rows as lists of lengths.
 #![tactic(auto)]
 
-ghost use Rattle.std.specs.Prelude.{◌≡◌, true, false, ◌+◌, ◌-◌, ◌≤◌, ◌<◌};
+ghost use Rattle.std.specs.Prelude.{◌≡◌, true, false, ◌+◌, ◌-◌, ◌≤◌, ◌<◌, IfSome};
 ghost use Rattle.drr.specs.Limits.{most_flows, most_overhead};
-ghost use Rattle.drr.specs.State.{table_of, line_of, spot_at, charge, shifted_of};
-ghost use Rattle.drr.specs.Sound.{headb, numbersb, cellb, soundb};
+ghost use Rattle.drr.specs.State.{line_in, charge, shifted_of, with_visit};
+ghost use Rattle.drr.specs.Sound.{headb, rangeb, flow_creditb, flow_numbersb, cellb, soundb};
 ghost use Rattle.drr.specs.Facts.{Sound};
 ghost use Rattle.drr.specs.Answers.{pick_paper, arrival_paper, outcome};
-ghost use Rattle.drr.specs.Arrival.{Booked};
+ghost use Rattle.drr.specs.Arrival.{arrival_of};
 ghost use Rattle.drr.specs.Pick.{after, first_of};
 ghost use Rattle.drr.specs.Computed.{sending, look as look_of, pick_of};
-ghost use Rattle.engine.specs.Needs.{bare, Bookable, Sendable};
+ghost use Rattle.engine.specs.Needs.{Bookable, Sendable};
 
-use drr::{ArrivalAnswer, Common, Found, PickAnswer, Refusal, Spot};
-
-// What a pick answers, and where it leaves the visit.
-#[derive(Clone, Copy)]
-pub struct Picking {
-    pub answer: PickAnswer,
-    pub spot: Spot,
-}
+use drr::{Line, PickAnswer, Refusal, Table};
 
 // What a packet of this length is charged. Public for a run, whose line is busy for as many ticks.
-pub fn charge_of(common: Common, length: u16) -> u32
-    requires { common.overhead ≤ most_overhead }
-    ensures { result ≡ charge (bare common) length }
+pub fn charge_of(table: &Table, length: u16) -> u32
+    requires { table.now.overhead ≤ most_overhead }
+    ensures { result ≡ charge table.now length }
 {
-    length as u32 + common.overhead
+    length as u32 + table.overhead
 }
 
 // The flow after f, round a table of n.
@@ -44,280 +35,198 @@ fn after_flow(n: usize, f: usize) -> usize
 
 // The first flow with a packet waiting, from the flow after the place, round the table, the place
 // itself last.
-fn next_waiting(n: usize, counts: &[u8; 16], place: usize) -> Found
+fn next_waiting(n: usize, counts: &[u8; 16], place: usize) -> Option<usize>
     requires n_le_most_flows { n ≤ most_flows }
     requires place_lt_most_flows { place < most_flows }
-    ensures { result ≡ first_of n counts.now n place }
+    ensures first { result ≡ first_of n counts.now n place }
+    ensures low { IfSome result (λ f. f < most_flows) }
 {
     let mut f = place;
-    let mut left = n;
-    while 0 < left {
+    for _ in 0..n {
         f = after_flow(n, f);
         if 0 < counts[f] {
-            return Found::At(f);
+            return Some(f);
         }
-        left -= 1;
     }
-    Found::Nothing
+    None
 }
 
-// A row without its oldest length, the freed cell zero.
-fn shifted(row: [u16; 32]) -> [u16; 32]
-    ensures { result ≡ shifted_of row }
+// A row loses its oldest length; the freed cell is zero.
+fn shift(row: &mut [u16; 32])
+    ensures { row.new ≡ shifted_of row.old }
 {
-    let mut lengths = [0u16; 32];
-    let mut k: usize = 0;
-    while k < 31 {
-        lengths[k] = row[k + 1];
-        k += 1;
-    }
-    lengths
+    row.copy_within(1.., 0);
+    row[31] = 0;
 }
 
 // The oldest packet of flow f is sent, in its open visit.
-fn send(
-    common: Common,
-    counts: &mut [u8; 16],
-    sums: &mut [u32; 16],
-    deficits: &mut [u32; 16],
-    rows: &mut [[u16; 32]; 16],
-    f: usize,
-    visits: u32,
-) -> Picking
-    requires { Sendable (bare common) (line_of counts.old sums.old deficits.old rows.old (spot_at f true)) f }
-    ensures { outcome (pick_paper result.answer)
-        (line_of counts.new sums.new deficits.new rows.new result.spot)
-        ≡ sending (bare common)
-        (line_of counts.old sums.old deficits.old rows.old (spot_at f true)) f visits }
+fn send(table: &Table, line: &mut Line, f: usize, visits: u32) -> PickAnswer
+    requires { Sendable table.now (line_in line.old) f }
+    ensures { outcome (pick_paper result) (line_in line.new)
+        ≡ sending table.now (with_visit (line_in line.old) f true) f visits }
 {
-    let row = rows[f];
-    let length = row[0];
-    let d = deficits[f] - charge_of(common, length);
-    deficits[f] = d;
-    counts[f] = counts[f] - 1;
-    sums[f] = sums[f] - length as u32;
-    let rest = shifted(row);
-    rows[f] = rest;
-    Picking {
-        answer: PickAnswer::Sent(f, length as u32, d, visits),
-        spot: Spot {
-            place: f,
-            opened: true,
-        },
-    }
+    let length = line.rows[f].lengths[0];
+    let d = line.deficits[f] - charge_of(table, length);
+    line.deficits[f] = d;
+    line.counts[f] -= 1;
+    line.sums[f] -= length as u32;
+    shift(&mut line.rows[f].lengths);
+    line.place = f;
+    line.opened = true;
+    PickAnswer::Sent(f, length as u32, d, visits)
 }
 
-// Steps 2 and 3: visits are opened round the table until a packet is sent, or nothing waits.
-// The maxima bound the packets, and with them the number of visits; no step reads them.
-fn look(
-    common: Common,
-    quanta: &[u32; 16],
-    maxima: &[u32; 16],
-    counts: &mut [u8; 16],
-    sums: &mut [u32; 16],
-    deficits: &mut [u32; 16],
-    rows: &mut [[u16; 32]; 16],
-    start: usize,
-) -> Picking
-    requires { Sound (table_of common quanta.now maxima.now)
-        (line_of counts.old sums.old deficits.old rows.old (spot_at start false)) }
-    ensures { outcome (pick_paper result.answer)
-        (line_of counts.new sums.new deficits.new rows.new result.spot)
-        ≡ look_of (table_of common quanta.now maxima.now) 0
-        (line_of counts.old sums.old deficits.old rows.old (spot_at start false)) }
+// Steps 2 and 3: visits are opened round the table until a packet is sent, or nothing waits. The place of
+// the last one is told the line only then: read back from it at each visit, a run of quantum 1 took a tenth longer.
+fn look(table: &Table, line: &mut Line) -> PickAnswer
+    requires sound { Sound table.now (line_in line.old) }
+    requires closed { line.old.opened ≡ false }
+    ensures { outcome (pick_paper result) (line_in line.new) ≡ look_of table.now 0 (line_in line.old) }
 {
-    let n = common.n;
-    let mut place = start;
+    let mut place = line.place;
     let mut visits: u32 = 0;
     loop {
-        let found = next_waiting(n, counts, place);
-        let Found::At(f) = found else {
-            return Picking {
-                answer: PickAnswer::Idle,
-                spot: Spot {
-                    place: place,
-                    opened: false,
-                },
-            };
+        let Some(f) = next_waiting(table.n, &line.counts, place) else {
+            line.place = place;
+            return PickAnswer::Idle;
         };
         visits += 1;
-        let charge = charge_of(common, rows[f][0]);
-        let d = deficits[f] + quanta[f];
-        deficits[f] = d;
+        let charge = charge_of(table, line.rows[f].lengths[0]);
+        let d = line.deficits[f] + table.quanta[f];
+        line.deficits[f] = d;
         place = f;
         if charge <= d {
-            return send(common, counts, sums, deficits, rows, f, visits);
+            return send(table, line, f, visits);
         }
     }
 }
 
 // The pick on a sound line.
-pub fn pick_in(
-    common: Common,
-    quanta: &[u32; 16],
-    maxima: &[u32; 16],
-    counts: &mut [u8; 16],
-    sums: &mut [u32; 16],
-    deficits: &mut [u32; 16],
-    rows: &mut [[u16; 32]; 16],
-    spot: Spot,
-) -> Picking
-    requires { Sound (table_of common quanta.now maxima.now) (line_of counts.old sums.old deficits.old rows.old spot) }
-    ensures { outcome (pick_paper result.answer)
-        (line_of counts.new sums.new deficits.new rows.new result.spot)
-        ≡ pick_of (table_of common quanta.now maxima.now)
-        (line_of counts.old sums.old deficits.old rows.old spot) }
+pub fn pick_in(table: &Table, line: &mut Line) -> PickAnswer
+    requires { Sound table.now (line_in line.old) }
+    ensures { outcome (pick_paper result) (line_in line.new) ≡ pick_of table.now (line_in line.old) }
 {
-    let f = spot.place;
-    if spot.opened {
-        if 0 < counts[f] {
-            if charge_of(common, rows[f][0]) <= deficits[f] {
-                return send(common, counts, sums, deficits, rows, f, 0);
-            }
-        } else {
-            deficits[f] = 0;
+    let f = line.place;
+    if line.opened {
+        if line.counts[f] == 0 {
+            line.deficits[f] = 0;
+        } else if charge_of(table, line.rows[f].lengths[0]) <= line.deficits[f] {
+            return send(table, line, f, 0);
         }
+        line.opened = false;
     }
-    look(common, quanta, maxima, counts, sums, deficits, rows, f)
+    look(table, line)
 }
 
 // A packet of `length` bytes for `flow` is put at the end of its row, or refused by 1, 2, 3 or 4.
-pub fn book(
-    common: Common,
-    maxima: &[u32; 16],
-    counts: &mut [u8; 16],
-    sums: &mut [u32; 16],
-    rows: &mut [[u16; 32]; 16],
-    flow: usize,
-    length: u32,
-) -> ArrivalAnswer
-    requires { Bookable common maxima.now sums.old }
-    ensures { Booked common maxima.now counts.old sums.old rows.old flow length
-        (arrival_paper result) counts.new sums.new rows.new }
+pub fn book(table: &Table, line: &mut Line, flow: usize, length: u32) -> Result<(), Refusal>
+    requires { Bookable table.now (line_in line.old) }
+    ensures { outcome (arrival_paper result) (line_in line.new)
+        ≡ arrival_of table.now (line_in line.old) flow length }
 {
-    if common.n <= flow {
-        return ArrivalAnswer::Refused(Refusal::UnknownFlow);
+    if table.n <= flow {
+        return Err(Refusal::UnknownFlow);
     }
     if length == 0 {
-        return ArrivalAnswer::Refused(Refusal::NoLength);
+        return Err(Refusal::NoLength);
     }
-    if maxima[flow] < length {
-        return ArrivalAnswer::Refused(Refusal::OverMaximum);
+    if table.maxima[flow] < length {
+        return Err(Refusal::OverMaximum);
     }
-    let c = counts[flow];
-    if drr::MOST_WAITING <= c {
-        return ArrivalAnswer::Refused(Refusal::RowFull);
+    let count = line.counts[flow];
+    if drr::MOST_WAITING <= count {
+        return Err(Refusal::RowFull);
     }
-    let k = c as usize;
-    rows[flow][k] = length as u16;
-    counts[flow] = c + 1;
-    sums[flow] = sums[flow] + length;
-    ArrivalAnswer::Accepted
+    line.rows[flow].lengths[count as usize] = length as u16;
+    line.counts[flow] += 1;
+    line.sums[flow] += length;
+    Ok(())
 }
 
 // n is 0 to 16, the overhead 0 to 64; the place is below n, or 0 and closed if n is 0, and the overhead 0.
-fn head_ok(common: Common, spot: Spot) -> bool
-    ensures { result ≡ headb common spot }
+fn head_ok(table: &Table, line: &Line) -> bool
+    ensures { result ≡ headb table.now (line_in line.now) }
 {
-    let n = common.n;
-    let overhead = common.overhead;
-    let place = spot.place;
-    ((n <= drr::MOST_FLOWS) & (overhead <= drr::MOST_OVERHEAD))
-        & ((place < n) | ((n == 0) & (overhead == 0) & (place == 0) & !spot.opened))
+    if table.n == 0 {
+        table.overhead == 0 && line.place == 0 && !line.opened
+    } else {
+        table.n <= drr::MOST_FLOWS && table.overhead <= drr::MOST_OVERHEAD && line.place < table.n
+    }
 }
 
-// The numbers of one flow, in use or not; `cost` is what its oldest packet is charged.
-fn numbers_ok(
-    used: bool,
-    visited: bool,
-    quantum: u32,
-    maximum: u32,
-    deficit: u32,
-    count: u8,
-    cost: u32,
-) -> bool
-    ensures { result ≡ numbersb used visited quantum maximum deficit count cost }
+// The numbers of a flow that is in use.
+fn range_ok(quantum: u32, maximum: u32, count: u8) -> bool
+    ensures { result ≡ rangeb quantum maximum count }
 {
-    let range = ((drr::LEAST_QUANTUM <= quantum) & (quantum <= drr::MOST_QUANTUM))
-        & ((drr::LEAST_MAXIMUM <= maximum) & (maximum <= drr::MOST_MAXIMUM))
-        & (count <= drr::MOST_WAITING);
-    let empty = count == 0;
-    let credit = (visited & (deficit < quantum))
-        | (!visited & ((empty & (deficit == 0)) | (!empty & (deficit < cost))));
-    let zero = (quantum == 0) & (maximum == 0) & (deficit == 0) & (count == 0);
-    (used & (range & credit)) | (!used & zero)
+    (drr::LEAST_QUANTUM..=drr::MOST_QUANTUM).contains(&quantum)
+        && (drr::LEAST_MAXIMUM..=drr::MOST_MAXIMUM).contains(&maximum)
+        && count <= drr::MOST_WAITING
 }
 
-// One cell of a row.
+// The deficit of flow f, which is in use: in an open visit, with nothing waiting, or with a packet waiting.
+fn credit_ok(table: &Table, line: &Line, f: usize) -> bool
+    requires flow { f < most_flows }
+    requires overhead { table.now.overhead ≤ most_overhead }
+    ensures { result ≡ flow_creditb table.now (line_in line.now) f }
+{
+    if line.opened && line.place == f {
+        line.deficits[f] < table.quanta[f]
+    } else if line.counts[f] == 0 {
+        line.deficits[f] == 0
+    } else {
+        line.deficits[f] < charge_of(table, line.rows[f].lengths[0])
+    }
+}
+
+// The numbers of flow f, in use or not.
+fn numbers_ok(table: &Table, line: &Line, f: usize) -> bool
+    requires flow { f < most_flows }
+    requires overhead { table.now.overhead ≤ most_overhead }
+    ensures { result ≡ flow_numbersb table.now (line_in line.now) f }
+{
+    let (quantum, maximum, count) = (table.quanta[f], table.maxima[f], line.counts[f]);
+    if f < table.n {
+        range_ok(quantum, maximum, count) && credit_ok(table, line, f)
+    } else {
+        quantum == 0 && maximum == 0 && line.deficits[f] == 0 && count == 0
+    }
+}
+
+// Cell k of a row of which `count` lengths wait.
 fn cell_ok(k: usize, count: u8, maximum: u32, length: u16) -> bool
     ensures { result ≡ cellb k count maximum length }
 {
-    let waits = k < count as usize;
-    (waits & ((1 <= length) & (length as u32 <= maximum))) | (!waits & (length == 0))
+    if k < count as usize {
+        (1..=maximum).contains(&(length as u32))
+    } else {
+        length == 0
+    }
 }
 
-// The bytes of one length more.
-fn with_length(bytes: u32, length: u16) -> u32
-    requires { bytes ≤ 2097120 }
-    ensures { (result ≡ bytes + length) × (result ≤ bytes + 65535) }
+// Whether the line is sound over the table. Both loops are left at the first fault. The inner one adds up
+// the lengths as it goes: those behind the waiting ones are zero.
+pub fn sound_in(table: &Table, line: &Line) -> bool
+    ensures { result ≡ soundb table.now (line_in line.now) }
 {
-    bytes + length as u32
-}
-
-// Whether what the arrays hold is sound. Both loops are left at the first fault. The inner one adds up the
-// lengths as it goes: those behind the waiting ones are zero.
-pub fn sound_in(
-    common: Common,
-    quanta: &[u32; 16],
-    maxima: &[u32; 16],
-    counts: &[u8; 16],
-    sums: &[u32; 16],
-    deficits: &[u32; 16],
-    rows: &[[u16; 32]; 16],
-    spot: Spot,
-) -> bool
-    ensures { result ≡ soundb (table_of common quanta.now maxima.now)
-        (line_of counts.now sums.now deficits.now rows.now spot) }
-{
-    let n = common.n;
-    let place = spot.place;
-    let opened = spot.opened;
-    if !head_ok(common, spot) {
+    if !head_ok(table, line) {
         return false;
     }
-    let mut ok = true;
-    let mut f: usize = 0;
-    'flows: while f < 16 {
-        let maximum = maxima[f];
-        let count = counts[f];
-        if !numbers_ok(
-            f < n,
-            opened & (place == f),
-            quanta[f],
-            maximum,
-            deficits[f],
-            count,
-            charge_of(common, rows[f][0]),
-        ) {
-            ok = false;
-            break 'flows;
-        }
-        let mut bytes: u32 = 0;
-        let mut k: usize = 0;
-        while k < 32 {
-            let length = rows[f][k];
-            if !cell_ok(k, count, maximum, length) {
-                ok = false;
-                break 'flows;
+    'flows: {
+        for f in 0..16 {
+            if !numbers_ok(table, line, f) {
+                break 'flows false;
             }
-            bytes = with_length(bytes, length);
-            k += 1;
+            let mut bytes: u32 = 0;
+            for (k, length) in line.rows[f].lengths.iter().enumerate() {
+                if !cell_ok(k, line.counts[f], table.maxima[f], *length) {
+                    break 'flows false;
+                }
+                bytes += *length as u32;
+            }
+            if bytes != line.sums[f] {
+                break 'flows false;
+            }
         }
-        if bytes != sums[f] {
-            ok = false;
-            break 'flows;
-        }
-        f += 1;
+        true
     }
-    ok
 }

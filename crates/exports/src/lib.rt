@@ -14,8 +14,7 @@ ghost use Rattle.runfile.specs.File.{run_answer};
 ghost use Rattle.runfile.specs.Listing.{filled};
 ghost use Rattle.exports.specs.Told.{setup_told, arrival_told, pick_told, figure_told, run_told};
 
-use drr::{ArrivalAnswer, FlowList, PickAnswer, State, Terms, Verdict};
-use figures::Figure;
+use drr::{Answered, FlowList, PickAnswer, Refusal, Refused, State, Terms};
 
 // In every answer `refusal` is document 01's number, 0 where nothing is refused; beside a refusal the other
 // numbers, place and state apart, are 0.
@@ -67,29 +66,46 @@ pub struct RunResult {
     pub place: usize,
 }
 
-fn result_of(v: Verdict) -> RunResult
-    ensures { result ≡ run_told (verdict_paper v) }
-{
-    match v {
-        Verdict::Fine => RunResult {
-            refusal: 0,
-            place: 0,
-        },
-        Verdict::Refused(why, place) => {
-            let refusal = drr::refusal_number(why);
-            RunResult { refusal, place }
+impl From<Result<(), Refused>> for RunResult {
+    ghost from_gives = { λ v told. told ≡ run_told (verdict_paper v) };
+
+    fn from(v: Result<(), Refused>) -> RunResult {
+        match v {
+            Ok(()) => RunResult {
+                refusal: 0,
+                place: 0,
+            },
+            Err(fault) => RunResult {
+                refusal: drr::refusal_number(fault.why),
+                place: fault.place,
+            },
         }
     }
 }
 
-fn arrival_told(a: ArrivalAnswer, state: State) -> ArrivalResult
-    ensures { result ≡ arrival_told (reply (arrival_paper a) state) }
-{
-    match a {
-        ArrivalAnswer::Accepted => ArrivalResult { refusal: 0, state },
-        ArrivalAnswer::Refused(why) => {
-            let refusal = drr::refusal_number(why);
-            ArrivalResult { refusal, state }
+impl From<Answered<Result<(), Refused>>> for SetupResult {
+    ghost from_gives = { λ made told. told ≡ setup_told (reply (verdict_paper made.answer) made.state) };
+
+    fn from(made: Answered<Result<(), Refused>>) -> SetupResult {
+        let told = RunResult::from(made.answer);
+        SetupResult {
+            refusal: told.refusal,
+            place: told.place,
+            state: made.state,
+        }
+    }
+}
+
+impl From<Answered<Result<(), Refusal>>> for ArrivalResult {
+    ghost from_gives = { λ a told. told ≡ arrival_told (reply (arrival_paper a.answer) a.state) };
+
+    fn from(a: Answered<Result<(), Refusal>>) -> ArrivalResult {
+        ArrivalResult {
+            refusal: match a.answer {
+                Ok(()) => 0,
+                Err(why) => drr::refusal_number(why),
+            },
+            state: a.state,
         }
     }
 }
@@ -109,35 +125,36 @@ fn unsent(refusal: u32, state: State) -> PickResult
     }
 }
 
-fn pick_told(a: PickAnswer, state: State) -> PickResult
-    ensures { result ≡ pick_told (reply (pick_paper a) state) }
-{
-    match a {
-        PickAnswer::Idle => unsent(0, state),
-        PickAnswer::Sent(flow, length, deficit, visits) => PickResult {
-            refusal: 0,
-            sent: true,
-            flow,
-            length,
-            deficit,
-            visits,
-            state,
-        },
-        PickAnswer::Refused(why) => {
-            let refusal = drr::refusal_number(why);
-            unsent(refusal, state)
+impl From<Answered<PickAnswer>> for PickResult {
+    ghost from_gives = { λ p told. told ≡ pick_told (reply (pick_paper p.answer) p.state) };
+
+    fn from(p: Answered<PickAnswer>) -> PickResult {
+        match p.answer {
+            PickAnswer::Idle => unsent(0, p.state),
+            PickAnswer::Sent(flow, length, deficit, visits) => PickResult {
+                refusal: 0,
+                sent: true,
+                flow,
+                length,
+                deficit,
+                visits,
+                state: p.state,
+            },
+            PickAnswer::Refused(why) => unsent(drr::refusal_number(why), p.state),
         }
     }
 }
 
-fn figure_told(a: Figure) -> FigureResult
-    ensures { result ≡ figure_told (figure_paper a) }
-{
-    match a {
-        Figure::Value(value) => FigureResult { refusal: 0, value },
-        Figure::Refused(why) => {
-            let refusal = drr::refusal_number(why);
-            FigureResult { refusal, value: 0 }
+impl From<Result<u64, Refusal>> for FigureResult {
+    ghost from_gives = { λ f told. told ≡ figure_told (figure_paper f) };
+
+    fn from(f: Result<u64, Refusal>) -> FigureResult {
+        match f {
+            Ok(value) => FigureResult { refusal: 0, value },
+            Err(why) => FigureResult {
+                refusal: drr::refusal_number(why),
+                value: 0,
+            },
         }
     }
 }
@@ -146,15 +163,7 @@ fn figure_told(a: Figure) -> FigureResult
 pub fn wikulambag_setup(list: FlowList, terms: Terms) -> SetupResult
     ensures { result ≡ setup_told (setup_reply (records_in list) terms) }
 {
-    let made = scheduler::flows::setup_of(list, terms);
-    let answer = made.answer;
-    let state = made.state;
-    let fault = result_of(answer);
-    SetupResult {
-        refusal: fault.refusal,
-        place: fault.place,
-        state,
-    }
+    SetupResult::from(scheduler::flows::setup_of(list, terms))
 }
 
 // Whether the state is sound.
@@ -168,52 +177,42 @@ pub fn wikulambag_sound(s: State) -> bool
 pub fn wikulambag_arrival(s: State, flow: usize, length: u32) -> ArrivalResult
     ensures { result ≡ arrival_told (arrival_reply s flow length) }
 {
-    let a = scheduler::arrival(s, flow, length);
-    let answer = a.answer;
-    let state = a.state;
-    arrival_told(answer, state)
+    ArrivalResult::from(scheduler::arrival(s, flow, length))
 }
 
 // The next packet is picked.
 pub fn wikulambag_pick(s: State) -> PickResult
     ensures { result ≡ pick_told (pick_reply s) }
 {
-    let p = scheduler::pick(s);
-    let answer = p.answer;
-    let state = p.state;
-    pick_told(answer, state)
+    PickResult::from(scheduler::pick(s))
 }
 
 // What the flow is owed of this many bytes.
 pub fn wikulambag_owed(s: State, flow: usize, bytes: u32) -> FigureResult
     ensures { result ≡ figure_told (owed_answer s flow bytes) }
 {
-    let f = figures::owed(s, flow, bytes);
-    figure_told(f)
+    FigureResult::from(figures::owed(s, flow, bytes))
 }
 
 // The least number of bytes of which the flow is owed one.
 pub fn wikulambag_wait(s: State, flow: usize) -> FigureResult
     ensures { result ≡ figure_told (wait_answer s flow) }
 {
-    let f = figures::wait(s, flow);
-    figure_told(f)
+    FigureResult::from(figures::wait(s, flow))
 }
 
 // C of the flow.
 pub fn wikulambag_lag(s: State, flow: usize) -> FigureResult
     ensures { result ≡ figure_told (lag_answer s flow) }
 {
-    let f = figures::lag(s, flow);
-    figure_told(f)
+    FigureResult::from(figures::lag(s, flow))
 }
 
 // How many bytes wait in the flow.
 pub fn wikulambag_waiting_bytes(s: State, flow: usize) -> FigureResult
     ensures { result ≡ figure_told (waiting_answer s flow) }
 {
-    let f = figures::waiting_bytes(s, flow);
-    figure_told(f)
+    FigureResult::from(figures::waiting_bytes(s, flow))
 }
 
 // Runs the file; its listing stands at the start of the lent list, or the refusal is told.
@@ -221,6 +220,5 @@ pub fn wikulambag_run(file: &[u8], out: &mut [u64]) -> RunResult
     ensures value { result ≡ run_told (run_answer file.now (length out.old)) }
     ensures out_after { out.new ≡ filled file.now out.old }
 {
-    let answer = runfile::run(file, out);
-    result_of(answer)
+    RunResult::from(runfile::run(file, out))
 }

@@ -22,20 +22,20 @@ use Rattle.drr.proofs.Facts.{of_sound}
 use Rattle.drr.proofs.Calls.{setup_keeps}
 use Rattle.drr.proofs.Account.{calls_sound, fresh_account}
 use Rattle.drr.proofs.Papers.{refusal_of, named, one_value}
-use Rattle.figures.specs.declared.Figure.{Figure}
-use Rattle.figures.specs.declared.Figure.TheVariants.{Value, Refused}
+use Rattle.drr.specs.declared.Refusal.{Refusal}
+use Rattle.std.specs.Prelude.{Result, Ok, Err}
 use Rattle.figures.specs.Answers.{figure_paper, figure_is, asked_answer, waiting_answer}
 
-figure_from : Answer → Figure
-figure_from a = cond (eqb a.refusal 0) (Value (get_or a.numbers 0 0)) (Refused (refusal_of a.refusal))
+figure_from : Answer → Result ℕ Refusal
+figure_from a = cond (eqb a.refusal 0) (Ok (get_or a.numbers 0 0)) (Err (refusal_of a.refusal))
 
-figure_back : (a : Figure) → figure_from (figure_paper a) ≡ a
+figure_back : (a : Result ℕ Refusal) → figure_from (figure_paper a) ≡ a
 unfolding figure_from
-figure_back (Value value) = refl
-figure_back (Refused why) = rw ((named why).some, (named why).back)
+figure_back (Ok value) = refl
+figure_back (Err why) = rw ((named why).some, (named why).back)
 
--- two values of the enum never have the same paper answer
-pub figure_apart : (a b : Figure) → figure_paper a ≡ figure_paper b → a ≡ b
+-- two figures never have the same paper answer
+pub figure_apart : (a b : Result ℕ Refusal) → figure_paper a ≡ figure_paper b → a ≡ b
 figure_apart = one_value figure_paper figure_from figure_back
 
 -- of a sound state and a flow of its table a figure is not refused

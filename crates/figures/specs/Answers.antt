@@ -1,16 +1,13 @@
 -- What document 01 gives as the answer of a figure: its refusal number, and its value.
-use Rattle.std.specs.Prelude.{ℕ, ◌+◌, cond, List, [], ◌∷◌, map, leb, ltb, length, get_or}
+use Rattle.std.specs.Prelude.{ℕ, ◌+◌, cond, List, [], ◌∷◌, map, leb, ltb, length, get_or, Result, Ok, Err}
 use Rattle.drr.specs.declared.State.{State}
+use Rattle.drr.specs.declared.Refusal.{Refusal}
 use Rattle.drr.specs.Sound.{sound_state}
 use Rattle.drr.specs.Answers.{number_of, Answer, answer}
 use Rattle.drr.specs.State.{quantum_of, maximum_of}
 use Rattle.drr.specs.Figures.{lag, owed, wait}
 use Rattle.drr.specs.Account.{bytes_waiting_in}
 use Rattle.figures.specs.Time.{wait_time}
-use Rattle.figures.specs.declared.Figure.{Figure}
-use Rattle.figures.specs.declared.Figure.TheVariants as figures
-use Rattle.figures.specs.declared.Guard.{Guard}
-use Rattle.figures.specs.declared.Guard.TheVariants as guards
 
 abbrev pub figure_is : ℕ → Answer
 figure_is value = answer 0 (value ∷ [])
@@ -19,9 +16,9 @@ figure_is value = answer 0 (value ∷ [])
 abbrev pub figure_refused : ℕ → Answer
 figure_refused number = answer number (0 ∷ [])
 
-abbrev pub figure_paper : Figure → Answer
-figure_paper (figures.Value value) = figure_is value
-figure_paper (figures.Refused why) = figure_refused (number_of why)
+abbrev pub figure_paper : Result ℕ Refusal → Answer
+figure_paper (Ok value) = figure_is value
+figure_paper (Err why) = figure_refused (number_of why)
 
 -- "Figures: 8, 1": what stands before every figure of a flow, and then what the figure answers
 unfoldable pub asked_answer : State → ℕ → Answer → Answer
@@ -29,9 +26,9 @@ asked_answer s flow figure =
     cond (sound_state s) (cond (leb s.table.n flow) (figure_refused 1) figure) (figure_refused 8)
 
 -- what the guard makes of the figure's answer: it lets it pass, or refuses
-abbrev pub guard_paper : Guard → Answer → Answer
-guard_paper guards.Passed figure = figure
-guard_paper (guards.Refused why) figure = figure_refused (number_of why)
+abbrev pub guard_paper : Result (Unit {0}) Refusal → Answer → Answer
+guard_paper (Ok _) figure = figure
+guard_paper (Err why) figure = figure_refused (number_of why)
 
 -- "Asked with S as a 32-bit number .. the definition has no limit on S."
 abbrev pub owed_answer : State → ℕ → ℕ → Answer

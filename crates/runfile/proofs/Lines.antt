@@ -1,33 +1,16 @@
 -- The lent lists, line by line.
 use mathlib.Core.Path.{◌≡◌, refl, sym, ap, subst, ◌∙◌}
 use mathlib.Core.List.{List, [], ◌∷◌, ◌++◌, append_assoc, append-nil}
-use mathlib.Core.Bool.{cond}
-use Prim.Native.Nat.{ℕ, suc, ◌+◌, ◌*◌, ◌≤◌}
+use Prim.Native.Nat.{ℕ, ◌+◌, ◌*◌, ◌≤◌}
 use native.Mathlib.Nat.{add-zero, mul-zero}
 use native.Mathlib.Omega.{arith}
-use lib.Dec.{eqb}
 use lib.ListN.{length, set, take, drop, take-append-drop, length-append, length-drop}
 use lib.Seq.{sets, sets-eq, take_at, drop_at, drop-drop, length-take-le}
-use Rattle.drr.specs.declared.Refusal.{Refusal}
-use Rattle.drr.specs.declared.ArrivalAnswer.{ArrivalAnswer}
-use Rattle.drr.specs.declared.ArrivalAnswer.TheVariants.{Accepted, Refused}
-use Rattle.drr.specs.Answers.{number_of, arrival_paper}
-use Rattle.drr.proofs.Papers.{number_some}
-use Rattle.runfile.specs.Listing.{written, drop_line}
+use Rattle.runfile.specs.Listing.{written}
 
 -- numbers stored one by one, from the index of line k on
 stored : (w k i : ℕ) (o v : List ℕ) → i ≡ w * k → w * k + length v ≤ length o → sets o i v ≡ written w o k v
 stored w k i o v p h = sets-eq v o i (omega arith) ∙ rw p
-
-pub six : (o : List ℕ) (k i a b c d e f : ℕ) → i ≡ 6 * k → 6 * k + 6 ≤ length o →
-    set (set (set (set (set (set o i a) (i + 1) b) (i + 2) c) (i + 3) d) (i + 4) e) (i + 5) f ≡ written 6 o k (a ∷ b ∷ c ∷ d ∷ e ∷ f ∷ [])
-six o k i a b c d e f p h =
-    let e1 : i + 1 ≡ suc i = omega arith in
-    let e2 : i + 2 ≡ suc (suc i) = omega arith in
-    let e3 : i + 3 ≡ suc (suc (suc i)) = omega arith in
-    let e4 : i + 4 ≡ suc (suc (suc (suc i))) = omega arith in
-    let e5 : i + 5 ≡ suc (suc (suc (suc (suc i)))) = omega arith in
-    rw (e1, e2, e3, e4, e5) (stored 6 k i o (a ∷ b ∷ c ∷ d ∷ e ∷ f ∷ []) p h)
 
 pub one : (o : List ℕ) (k a : ℕ) → 1 * k + 1 ≤ length o → set o k a ≡ written 1 o k (a ∷ [])
 one o k a h = stored 1 k k o (a ∷ []) (omega arith) h
@@ -81,33 +64,8 @@ module _ {w : ℕ} {o₀ L : List ℕ} {k : ℕ} {ahead o : List ℕ} (F : Filli
       (sym (append-nil (take (w * k) o)) ∙ ap (λ (x : List ℕ). take (w * k) o ++ x) (sym e) ∙ F.rest)
 
 -- no line: the list as it was
-written_none : (w : ℕ) (o : List ℕ) (k : ℕ) → written w o k [] ≡ o
+pub written_none : (w : ℕ) (o : List ℕ) (k : ℕ) → written w o k [] ≡ o
 written_none w o k =
     ap (λ (l : List ℕ). l ++ drop (w * k + 0) o) (append-nil (take (w * k) o))
     ∙ ap (λ (i : ℕ). take (w * k) o ++ drop i o) (add-zero (w * k))
     ∙ take-append-drop (w * k) o
-
--- ---- the line of an event: none where it is accepted, numbers v where it is refused
-module _ (w : ℕ) (o : List ℕ) (k : ℕ) (a : ArrivalAnswer) (v : List ℕ) where
-  pub line_none : a ≡ Accepted → o ≡ written w o k (cond (eqb (arrival_paper a).refusal 0) [] v)
-  line_none e = rw e (sym (written_none w o k))
-
-  pub line_some : (why : Refusal) → a ≡ Refused why → written w o k v ≡ written w o k (cond (eqb (arrival_paper a).refusal 0) [] v)
-  line_some why e = rw e (rw (number_some why) refl)
-
--- .. a D line
-module _ (o : List ℕ) (k tick flow len : ℕ) (a : ArrivalAnswer) where
-  abbrev Noted : ℕ → List ℕ → Type 0
-  Noted number o' = (number ≡ (arrival_paper a).refusal) × (o' ≡ written 6 o k (drop_line tick flow len (arrival_paper a).refusal))
-
-  pub noted_none : a ≡ Accepted → Noted 0 o
-  noted_none e = (rw e refl, line_none 6 o k a (2 ∷ tick ∷ flow ∷ len ∷ (arrival_paper a).refusal ∷ 0 ∷ []) e)
-
-  pub noted_some : (why : Refusal) → a ≡ Refused why → (number w : ℕ) → number ≡ number_of why → w ≡ number → (o' : List ℕ) →
-      o' ≡ written 6 o k (2 ∷ tick ∷ flow ∷ len ∷ w ∷ 0 ∷ []) → Noted number o'
-  noted_some why e number w is same o' at =
-      let n : number ≡ (arrival_paper a).refusal = rw e is in (
-        n,
-        at ∙ ap (λ (x : ℕ). written 6 o k (2 ∷ tick ∷ flow ∷ len ∷ x ∷ 0 ∷ [])) (same ∙ n)
-            ∙ line_some 6 o k a (2 ∷ tick ∷ flow ∷ len ∷ (arrival_paper a).refusal ∷ 0 ∷ []) why e,
-      )

@@ -1,12 +1,13 @@
 -- "The run file": its header, its two tables, and the refusals of a reader, over the list of its bytes.
-use Rattle.std.specs.Prelude.{ℕ, zero, suc, ◌+◌, ◌*◌, ◌%◌, ◌≤◌, ◌<◌, Bool, not, cond, ◌&&◌, ◌||◌, List, [], ◌∷◌, ltb, leb, eqb, length, get_or, drop}
+use Rattle.std.specs.Prelude.{ℕ, zero, suc, ◌+◌, ◌*◌, ◌%◌, ◌≤◌, ◌<◌, Bool, not, cond, ◌&&◌, ◌||◌, List, [], ◌∷◌, ltb, leb, eqb, length, get_or, drop, Result, Ok, Err}
 use Rattle.drr.specs.declared.Table.{Table}
 use Rattle.runfile.specs.declared.turns.Event.{Event as Three}
 use Rattle.drr.specs.declared.FlowRecord.{FlowRecord}
 use Rattle.drr.specs.declared.Terms.{Terms}
+use Rattle.drr.specs.declared.Refusal.{Refusal}
 use Rattle.drr.specs.Limits.{most_flows, most_overhead, most_events}
 use Rattle.drr.specs.State.{no_flows, empty_table}
-use Rattle.drr.specs.Answers.{Answer, fine, refused_at, Reply, reply}
+use Rattle.drr.specs.Answers.{Answer, number_of, fine, refused_at, Reply, reply}
 use Rattle.drr.specs.Setup.{terms_of, table_for, flows_answer, setup_reply}
 use Rattle.runfile.specs.declared.reader.Part.{Part}
 use Rattle.runfile.specs.declared.reader.Layout.{Layout}
@@ -112,6 +113,11 @@ header_answer b =
     (cond (ltb most_events (event_count b)) (refused_at 11 0)
     (cond (not (tablesb (flow_count b) (event_count b) (flow_offset b) (event_offset b) (length b))) (refused_at 12 0)
     fine)))))
+
+-- .. of what the code hands on: "else 0" is the place of a header's refusal
+abbrev pub header_paper : Result Layout Refusal → Answer
+header_paper (Ok layout) = fine
+header_paper (Err why) = refused_at (number_of why) 0
 
 -- where the tables are, of a header without a fault
 unfoldable pub header_layout : List ℕ → Layout

@@ -10,11 +10,11 @@ ghost use Rattle.drr.specs.Answers.{verdict_paper};
 ghost use Rattle.runfile.specs.File.{run_answer};
 ghost use Rattle.runfile.specs.Listing.{filled, room_of, filled_lines, filled_beside};
 
-use drr::{Refusal, Verdict};
+use drr::{Refusal, Refused};
 
 // The whole run of a file: its listing at the start of the lent list, six numbers a line, or a refusal
 // that leaves the list alone.
-pub fn run(file: &[u8], out: &mut [u64]) -> Verdict
+pub fn run(file: &[u8], out: &mut [u64]) -> Result<(), Refused>
     ensures result_value { verdict_paper result ≡ run_answer file.now (length out.old) }
     ensures out_after { out.new ≡ filled file.now out.old }
 {
@@ -25,23 +25,17 @@ pub fn run(file: &[u8], out: &mut [u64]) -> Verdict
 
 // The same run with a second lent list: beside each line of the listing but the last, the bytes that wait in
 // the line's flow when it is written, one number a line. 14 where either list is too short.
-pub fn run_waiting(file: &[u8], out: &mut [u64], beside: &mut [u64]) -> Verdict
+pub fn run_waiting(file: &[u8], out: &mut [u64], beside: &mut [u64]) -> Result<(), Refused>
     ensures result_value { verdict_paper result ≡ run_answer file.now (room_of out.old beside.old) }
     ensures out_after { out.new ≡ filled_lines (room_of out.old beside.old) file.now out.old }
     ensures beside_after { beside.new ≡ filled_beside (room_of out.old beside.old) file.now beside.old }
 {
-    let read = reader::read(file);
-    let answer = read.answer;
-    if let Verdict::Refused(why, place) = answer {
-        return Verdict::Refused(why, place);
-    }
+    let read = reader::read(file)?;
     let events = read.events;
     let m = events.count;
-    if (out.len() < 6 * (m + 1)) | (beside.len() < m) {
-        return Verdict::Refused(Refusal::ListShort, 0);
+    if out.len() < 6 * (m + 1) || beside.len() < m {
+        return Err(Refusal::ListShort.into());
     }
-    let at = events.at;
-    let table = read.table;
-    turns::run_events(&file[at..], m, table, out, beside);
-    Verdict::Fine
+    turns::run_events(&file[events.at..], m, read.table, out, beside);
+    Ok(())
 }

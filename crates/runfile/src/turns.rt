@@ -1,8 +1,7 @@
-// The run of a file's events: the engine's booking and pick over local arrays, a line written for each
+// The run of a file's events: the engine's booking and pick on a line of its own, a line written for each
 // packet sent and each event refused, and beside it what the line's flow has waiting.
-ghost use Rattle.std.specs.Prelude.{◌≡◌, cond, false, ◌++◌, ◌∷◌, [], ◌+◌, ◌*◌, ◌-◌, ◌≤◌, ◌<◌, length, drop};
+ghost use Rattle.std.specs.Prelude.{◌≡◌, ◌++◌, ◌+◌, ◌*◌, ◌≤◌, ◌<◌, length, drop};
 ghost use Rattle.drr.specs.Limits.{most_events};
-ghost use Rattle.drr.specs.State.{spot_at};
 ghost use Rattle.drr.specs.Facts.{Ranged};
 ghost use Rattle.drr.specs.Answers.{arrival_paper};
 ghost use Rattle.runfile.specs.File.{event_at, events_from};
@@ -10,14 +9,48 @@ ghost use Rattle.runfile.specs.Listing.{tally, drop_line, after_event, beside_ev
 ghost use Rattle.runfile.specs.Needs.{Room, at_flow, comeb};
 
 use super::fields::{le2, le4};
-use drr::{ArrivalAnswer, PickAnswer, Spot, Table};
+use drr::{Line, PickAnswer, Refusal, Table};
 
 // Packets sent, events refused, and the tick of line 3, so far.
-#[derive(Clone, Copy)]
+#[derive(Clone, Copy, Default)]
 pub struct Tally {
     pub sent: usize,
     pub refused: usize,
     pub last: usize,
+}
+
+impl Tally {
+    // How many lines are written.
+    fn lines(self) -> usize
+        requires { self.sent + self.refused ≤ most_events }
+        ensures { result ≡ self.sent + self.refused }
+    {
+        self.sent + self.refused
+    }
+
+    // The count after an event that was booked.
+    fn after_event(self, tick: usize, answer: Result<(), Refusal>) -> Tally
+        requires { self.refused ≤ most_events }
+        ensures { result ≡ after_event tick (arrival_paper answer).refusal self }
+    {
+        Tally {
+            refused: self.refused + usize::from(answer.is_err()),
+            last: if self.sent == 0 { tick } else { self.last },
+            ..self
+        }
+    }
+
+    // The count after a packet that is sent until the tick `end`.
+    fn after_sent(self, end: usize) -> Tally
+        requires { self.sent ≤ most_events }
+        ensures { result ≡ tally (self.sent + 1) self.refused end }
+    {
+        Tally {
+            sent: self.sent + 1,
+            last: end,
+            ..self
+        }
+    }
 }
 
 // An event of the file.
@@ -28,147 +61,50 @@ pub struct Event {
     pub length: usize,
 }
 
-fn either(test: bool, a: usize, b: usize) -> usize
-    ensures { result ≡ cond test a b }
-{
-    if test { a } else { b }
-}
-
 // Line k of the lent list.
-fn put_line(out: &mut [u64], k: usize, a: usize, b: usize, c: usize, d: usize, e: usize, f: usize)
+fn put_line(out: &mut [u64], k: usize, line: [u64; 6])
     requires { (6 * k + 6 ≤ length out.old) × (k ≤ most_events) }
-    ensures { out.new ≡ written 6 out.old k (a ∷ b ∷ c ∷ d ∷ e ∷ f ∷ []) }
+    ensures { out.new ≡ written 6 out.old k line }
 {
-    let at = 6 * k;
-    out[at] = a as u64;
-    out[at + 1] = b as u64;
-    out[at + 2] = c as u64;
-    out[at + 3] = d as u64;
-    out[at + 4] = e as u64;
-    out[at + 5] = f as u64;
-}
-
-// The count after an event that was accepted (0) or refused.
-fn after_event(y: Tally, tick: usize, refusal: u32) -> Tally
-    requires { y.refused < 1000000 }
-    ensures { result ≡ after_event tick refusal y }
-{
-    let refused = either(refusal == 0, y.refused, y.refused + 1);
-    let last = either(y.sent == 0, tick, y.last);
-    Tally {
-        sent: y.sent,
-        refused: refused,
-        last: last,
-    }
-}
-
-// An event that was booked: a line where it was refused, and the count after it.
-fn note(out: &mut [u64], y: Tally, e: Event, answer: ArrivalAnswer) -> Tally
-    requires { Room 6 y out.old }
-    ensures value { result ≡ after_event e.tick (arrival_paper answer).refusal y }
-    ensures out_after { out.new
-        ≡ written 6 out.old (y.sent + y.refused) (drop_line e.tick e.flow e.length (arrival_paper answer).refusal) }
-{
-    match answer {
-        ArrivalAnswer::Accepted => after_event(y, e.tick, 0),
-        ArrivalAnswer::Refused(why) => {
-            let number = drr::refusal_number(why);
-            put_line(
-                out,
-                y.sent + y.refused,
-                2,
-                e.tick,
-                e.flow,
-                e.length,
-                widths::usize_of_u32(number),
-                0,
-            );
-            after_event(y, e.tick, number)
-        }
-    }
+    out[6 * k..6 * k + 6].copy_from_slice(&line);
 }
 
 // The bytes that wait in a flow; none in one that there is not.
-fn waiting_at(sums: &[u32; 16], flow: usize) -> usize
-    ensures { result ≡ at_flow sums.now flow }
+fn waiting_at(line: &Line, flow: usize) -> u64
+    ensures { result ≡ at_flow line.now.sums flow }
 {
-    if flow < drr::MOST_FLOWS {
-        widths::usize_of_u32(sums[flow])
-    } else {
-        0
-    }
+    line.sums.get(flow).map_or(0, |bytes| u64::from(*bytes))
 }
 
-// The number beside the line that is written next.
-fn put_beside(beside: &mut [u64], y: Tally, number: usize)
-    requires { Room 1 y beside.old }
-    ensures { beside.new ≡ written 1 beside.old (y.sent + y.refused) (number ∷ []) }
-{
-    let k = y.sent + y.refused;
-    beside[k] = number as u64;
-}
-
-// The same of an event that was booked: it has a line where it was refused.
-fn note_beside(beside: &mut [u64], y: Tally, number: usize, answer: ArrivalAnswer)
-    requires { Room 1 y beside.old }
-    ensures { beside.new
-        ≡ written 1 beside.old (y.sent + y.refused) (beside_event (arrival_paper answer).refusal number) }
-{
-    if let ArrivalAnswer::Refused(_) = answer {
-        put_beside(beside, y, number);
-    }
-}
-
-// The line of a packet that is sent from the tick `start` to the tick `end`, and the count after it.
-fn send_line(
+// An event that was booked: where it was refused, a line and beside it the bytes that wait in its flow;
+// and the count after it.
+fn note(
     out: &mut [u64],
+    beside: &mut [u64],
     y: Tally,
-    start: usize,
-    end: usize,
-    flow: usize,
-    len: u32,
-    deficit: u32,
-    visits: u32,
+    e: Event,
+    waiting: u64,
+    answer: Result<(), Refusal>,
 ) -> Tally
-    requires { Room 6 y out.old }
-    ensures value { result ≡ tally (y.sent + 1) y.refused end }
+    requires line { Room 6 y out.old }
+    requires number { Room 1 y beside.old }
+    ensures value { result ≡ after_event e.tick (arrival_paper answer).refusal y }
     ensures out_after { out.new
-        ≡ written 6 out.old (y.sent + y.refused) (1 ∷ start ∷ flow ∷ len ∷ deficit ∷ visits ∷ []) }
+        ≡ written 6 out.old (y.sent + y.refused) (drop_line e.tick e.flow e.length (arrival_paper answer).refusal) }
+    ensures beside_after { beside.new
+        ≡ written 1 beside.old (y.sent + y.refused) (beside_event (arrival_paper answer).refusal waiting) }
 {
-    put_line(
-        out,
-        y.sent + y.refused,
-        1,
-        start,
-        flow,
-        widths::usize_of_u32(len),
-        widths::usize_of_u32(deficit),
-        widths::usize_of_u32(visits),
-    );
-    Tally {
-        sent: y.sent + 1,
-        refused: y.refused,
-        last: end,
+    if let Err(why) = answer {
+        let k = y.lines();
+        let number = u64::from(drr::refusal_number(why));
+        put_line(
+            out,
+            k,
+            [2, e.tick as u64, e.flow as u64, e.length as u64, number, 0],
+        );
+        beside[k] = waiting;
     }
-}
-
-fn no_lines() -> Tally
-    ensures { result ≡ tally 0 0 0 }
-{
-    Tally {
-        sent: 0,
-        refused: 0,
-        last: 0,
-    }
-}
-
-fn closed_at(place: usize) -> Spot
-    ensures { result ≡ spot_at place false }
-{
-    Spot {
-        place: place,
-        opened: false,
-    }
+    y.after_event(e.tick, answer)
 }
 
 // Whether event `at` of m is there, and its tick is at or before `tick`.
@@ -176,11 +112,7 @@ fn has_come(t: &[u8], m: usize, at: usize, tick: usize) -> bool
     requires { (8 * m ≤ length t.now) × (m ≤ most_events) }
     ensures { result ≡ comeb t.now m at tick }
 {
-    if at < m {
-        le4(t, 8 * at) <= tick
-    } else {
-        false
-    }
+    at < m && le4(t, 8 * at) <= tick
 }
 
 // Event `at`, which is there.
@@ -188,13 +120,10 @@ fn event_at(t: &[u8], at: usize) -> Event
     requires { (8 * at + 8 ≤ length t.now) × (at ≤ most_events) }
     ensures { (result ≡ event_at t.now at) × (result.length < 65536) }
 {
-    let tick = le4(t, 8 * at);
-    let flow = le2(t, 8 * at + 4);
-    let length = le2(t, 8 * at + 6);
     Event {
-        tick: tick,
-        flow: flow,
-        length: length,
+        tick: le4(t, 8 * at),
+        flow: le2(t, 8 * at + 4),
+        length: le2(t, 8 * at + 6),
     }
 }
 
@@ -209,58 +138,35 @@ pub fn run_events(t: &[u8], m: usize, table: Table, out: &mut [u64], beside: &mu
     ensures beside_after { beside.new
         ≡ events_waiting table (events_from t.now 0 m) ++ drop m beside.old }
 {
-    let common = drr::common_of(table);
-    let quanta = table.quanta;
-    let maxima = table.maxima;
-    let mut counts = [0u8; 16];
-    let mut sums = [0u32; 16];
-    let mut deficits = [0u32; 16];
-    let mut rows = [[0u16; 32]; 16];
-    let mut spot = closed_at(common.n - 1);
-    let mut y = no_lines();
+    let mut line = scheduler::flows::fresh(table).line;
+    let mut y = Tally::default();
     let mut now: usize = 0;
     let mut at: usize = 0;
     loop {
         if has_come(t, m, at, now) {
             let e = event_at(t, at);
-            let answer = engine::book(
-                common,
-                &maxima,
-                &mut counts,
-                &mut sums,
-                &mut rows,
-                e.flow,
-                e.length as u32,
-            );
-            note_beside(beside, y, waiting_at(&sums, e.flow), answer);
-            y = note(out, y, e, answer);
+            let answer = engine::book(&table, &mut line, e.flow, e.length as u32);
+            y = note(out, beside, y, e, waiting_at(&line, e.flow), answer);
             at += 1;
             continue;
         }
-        let p = engine::pick_in(
-            common,
-            &quanta,
-            &maxima,
-            &mut counts,
-            &mut sums,
-            &mut deficits,
-            &mut rows,
-            spot,
-        );
-        spot = p.spot;
-        let answer = p.answer;
+        let answer = engine::pick_in(&table, &mut line);
         let PickAnswer::Sent(flow, len, deficit, visits) = answer else {
             if m <= at {
-                put_line(out, y.sent + y.refused, 3, y.last, y.sent, y.refused, 0, 0);
+                let last = [3, y.last as u64, y.sent as u64, y.refused as u64, 0, 0];
+                put_line(out, y.lines(), last);
                 return;
             }
             now = le4(t, 8 * at);
             continue;
         };
-        put_beside(beside, y, waiting_at(&sums, flow));
         // the line is free again after as many ticks as the packet is charged
-        let end = now + widths::usize_of_u32(engine::charge_of(common, len as u16));
-        y = send_line(out, y, now, end, flow, len, deficit, visits);
+        let end = now + engine::charge_of(&table, len as u16) as usize;
+        let (len, deficit, visits) = (u64::from(len), u64::from(deficit), u64::from(visits));
+        let sent = [1, now as u64, flow as u64, len, deficit, visits];
+        put_line(out, y.lines(), sent);
+        beside[y.lines()] = waiting_at(&line, flow);
+        y = y.after_sent(end);
         now = end;
     }
 }

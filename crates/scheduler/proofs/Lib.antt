@@ -1,4 +1,3 @@
 -- Laws that several functions' proofs cite.
 pub mod Setups
 pub mod Copied
-pub mod Plain

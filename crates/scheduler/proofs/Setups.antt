@@ -2,56 +2,52 @@
 use mathlib.Core.Path.{◌≡◌, refl, sym, ap, ◌∙◌}
 use mathlib.Core.Bool.{Bool, true, false, ◌||◌}
 use mathlib.Core.List.{List, [], ◌∷◌}
-use mathlib.Core.Logic.{⊎_elim}
+use mathlib.Core.Logic.{◌⊎◌, ⊎_elim}
 use Prim.Native.Nat.{ℕ, zero, suc, ◌+◌, ◌≤◌, ◌<◌}
 use native.Mathlib.Nat.{not-suc-le-zero}
 use native.Mathlib.Numerals.{add-one}
 use native.Mathlib.Omega.{arith}
-use borrow.Author.Tests.{lt-ltb}
+use borrow.Author.Tests.{lt-ltb, le-ltb, lt-leb, le-leb, ne_eqb}
 use lib.Dec.{eqb, ltb}
 use lib.ListN.{length, get_or, set, take, drop, length-take}
-use lib.Seq.{length-take-le, get_or-take, drop-cons}
+use lib.Seq.{length-take-le, drop-cons}
 use Rattle.drr.specs.declared.FlowRecord.{FlowRecord}
 use Rattle.drr.specs.declared.Table.{Table}
 use Rattle.drr.specs.declared.Refusal.{Refusal}
 use Rattle.drr.specs.declared.Terms.{Terms}
-use Rattle.drr.specs.Limits.{most_flows, most_overhead}
-use Rattle.drr.specs.State.{common, table_of, no_flows}
-use Rattle.drr.specs.Sound.{quantumb, maximumb}
+use Rattle.drr.specs.Limits.{most_flows, most_overhead, least_quantum, most_quantum, least_maximum, most_maximum}
+use Rattle.drr.specs.State.{no_flows}
+use Rattle.drr.specs.Sound.{withinb}
 use Rattle.drr.specs.Answers.{Answer, number_of, fine, refused_at}
 use Rattle.drr.specs.Setup.{cells, table_for, flows_answer, setup_answer, setup_table}
 use Rattle.drr.proofs.Bools.{below?, or_inr}
-use Rattle.drr.proofs.Copies.{drop_past}
 use Rattle.drr.proofs.Papers.{number_some}
 use Rattle.drr.proofs.Tables.{none}
 
--- ---- the first c of the records, from flow f on
-module _ (rs : List FlowRecord) (c f : ℕ) where
-  abbrev rest : List FlowRecord
-  rest = drop f (take c rs)
+-- ---- the test of a range
+out_of : (least most x : ℕ) → (x < least) ⊎ ((least ≤ x) × (most < x)) → withinb least most x ≡ false
+out_of least most x = ⊎_elim (λ low. rw (lt-leb least x low)) (λ high. rw (le-leb least x high.0, lt-leb x most high.1))
 
-  pub no_more : c ≤ f → flows_answer f rest ≡ fine
-  no_more h = ap (flows_answer f) (drop_past (take c rs) f (omega (arith, length-take c rs)))
+within : (least most x : ℕ) → least ≤ x → x ≤ most → withinb least most x ≡ true
+within least most x low high = rw (le-leb least x low, le-leb x most high)
 
-  module _ (inside : c ≤ length rs) (more : f < c) where
-    abbrev here : FlowRecord
-    here = get_or rs f none
+-- ---- the records from flow f on
+module _ (rs : List FlowRecord) (f : ℕ) (more : f < length rs) where
+  abbrev here : FlowRecord
+  here = get_or rs f none
 
-    one_more : rest ≡ here ∷ drop (f + 1) (take c rs)
-    one_more =
-        drop-cons (take c rs) f none (omega (arith, length-take-le c rs inside))
-        ∙ ap (λ (x : FlowRecord). x ∷ drop (suc f) (take c rs)) (get_or-take c rs f none more)
-        ∙ ap (λ (k : ℕ). here ∷ drop k (take c rs)) (sym (add-one f))
+  one_more : drop f rs ≡ here ∷ drop (f + 1) rs
+  one_more = drop-cons rs f none more ∙ ap (λ (k : ℕ). here ∷ drop k rs) (sym (add-one f))
 
-    pub bad_quantum : quantumb here.quantum ≡ false → flows_answer f rest ≡ refused_at 6 f
-    bad_quantum h = rw (one_more, h)
+  pub bad_quantum : (here.quantum < least_quantum) ⊎ ((least_quantum ≤ here.quantum) × (most_quantum < here.quantum)) →
+      refused_at 6 f ≡ flows_answer f (drop f rs)
+  bad_quantum out = sym (rw (one_more, out_of least_quantum most_quantum here.quantum out))
 
-    module _ (good : quantumb here.quantum ≡ true) where
-      pub bad_maximum : maximumb here.maximum ≡ false → flows_answer f rest ≡ refused_at 7 f
-      bad_maximum h = rw (one_more, good, h)
-
-      pub flow_fine : maximumb here.maximum ≡ true → flows_answer f rest ≡ flows_answer (f + 1) (drop (f + 1) (take c rs))
-      flow_fine h = rw (one_more, good, h)
+  pub bad_maximum : least_quantum ≤ here.quantum → here.quantum ≤ most_quantum →
+      (here.maximum < least_maximum) ⊎ ((least_maximum ≤ here.maximum) × (most_maximum < here.maximum)) →
+      refused_at 7 f ≡ flows_answer f (drop f rs)
+  bad_maximum low high out =
+      sym (rw (one_more, within least_quantum most_quantum here.quantum low high, out_of least_maximum most_maximum here.maximum out))
 
 -- ---- the cells of the table, one record more
 cells_next : (p : FlowRecord → ℕ) (w i : ℕ) (xs : List FlowRecord) → i < length xs →
@@ -66,11 +62,6 @@ pub cells_more : (p : FlowRecord → ℕ) (xs : List FlowRecord) (i : ℕ) (cs :
 cells_more p xs i cs is l =
     ap (λ (k : List ℕ). set k i (p (get_or xs i none))) is ∙ cells_next p 16 i xs l
     ∙ ap (λ (k : ℕ). cells p 16 (take k xs)) (sym (add-one i))
-
-pub table_filled : (xs : List FlowRecord) (c : ℕ) (qs ms : List ℕ) → c ≤ length xs →
-    qs ≡ cells (λ r. r.quantum) 16 (take c xs) → ms ≡ cells (λ r. r.maximum) 16 (take c xs) →
-    (terms : Terms) → table_of (common c terms.overhead) qs ms ≡ table_for (take c xs) terms
-table_filled xs c qs ms inside q m terms = rw (q, m, length-take-le c xs inside)
 
 -- ---- an answer and a table are setup's
 pub record Gives (xs : List FlowRecord) (terms : Terms) (a : Answer) (T : Table) : Type 0 where
@@ -106,6 +97,13 @@ pub too_many : (xs : List FlowRecord) (terms : Terms) → Over xs terms false �
     Gives xs terms (refused_at 5 0) no_flows
 too_many xs terms o more =
     gives_count xs terms o (or_inr (eqb (length xs) 0) (ltb most_flows (length xs)) (lt-ltb most_flows (length xs) more))
+
+-- the test of a count
+pub count_out : (c : ℕ) → (c ≡ 0) ⊎ ((c ≡ 0 → ⊥) × (most_flows < c)) → (eqb c 0 || ltb most_flows c) ≡ true
+count_out c = ⊎_elim (λ zero. rw zero) (λ more. or_inr (eqb c 0) (ltb most_flows c) (lt-ltb most_flows c more.1))
+
+pub count_in : (c : ℕ) → (c ≡ 0 → ⊥) → c ≤ most_flows → (eqb c 0 || ltb most_flows c) ≡ false
+count_in c some few = rw (ne_eqb c 0 some, le-ltb most_flows c few)
 
 -- the count that the code tests is the list's, of a list of seventeen
 pub counted : (rs : List FlowRecord) (c : ℕ) (b : Bool) → length rs ≡ 17 → (eqb c 0 || ltb most_flows c) ≡ b → Counted (take c rs) b

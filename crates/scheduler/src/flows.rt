@@ -3,50 +3,39 @@
 // `table_of` judges a list and makes its table; a run stands on it, and makes its own line. `setup_of` makes
 // the whole fresh state; programs and other languages call it, since its parameters are plain. `setup` is
 // document 01's form, a lent slice of any length: it is thin, copies the records and calls `setup_of`.
-ghost use Rattle.std.specs.Prelude.{◌≡◌, ◌-◌, ◌<◌, ◌≤◌, min, take};
+ghost use Rattle.std.specs.Prelude.{◌≡◌, ◌-◌, ◌≤◌, length};
+ghost use Rattle.std.specs.Result.{result_unwrap_or};
 ghost use Rattle.drr.specs.Limits.{most_flows};
-ghost use Rattle.drr.specs.State.{no_flows, fresh_state};
+ghost use Rattle.drr.specs.State.{no_flows, fresh_state, empty_table};
 ghost use Rattle.drr.specs.Answers.{number_of, refused_at, verdict_paper, reply};
 ghost use Rattle.drr.specs.Setup.{table_for, flows_answer, setup_answer, setup_table, setup_reply, records_in};
-ghost use Rattle.scheduler.specs.Copying.{started_of, put_of};
 
-use drr::{FlowList, FlowRecord, Line, Made, Refusal, Row, State, Table, Tabled, Terms, Verdict};
+use drr::{Answered, FlowList, FlowRecord, Line, Refusal, Refused, Row, State, Table, Terms};
 
-// The place of a fresh state: the flow before flow 0, round the table.
-fn last_flow(n: usize) -> usize
-    ensures { result ≡ n - 1 }
-{
-    if n == 0 { 0 } else { n - 1 }
-}
-
-// Nothing waits, deficits 0, no visit open, place n-1. Public for the reader of a run file, which has a table and no records.
+// Nothing waits, deficits 0, no visit open, place n-1, the flow before flow 0 round the table. Public for a run,
+// which has a table and no records.
 pub fn fresh(table: Table) -> State
     ensures { result ≡ fresh_state table }
 {
-    let place = last_flow(table.n);
     let row = Row {
         lengths: [0u16; 32],
     };
-    let rows = [row; 16];
-    let deficits = [0u32; 16];
-    let counts = [0u8; 16];
-    let sums = [0u32; 16];
     State {
-        table: table,
+        table,
         line: Line {
-            deficits: deficits,
-            counts: counts,
-            sums: sums,
-            place: place,
+            deficits: [0u32; 16],
+            counts: [0u8; 16],
+            sums: [0u32; 16],
+            place: table.n.saturating_sub(1),
             opened: false,
-            rows: rows,
+            rows: [row; 16],
         },
     }
 }
 
-// A refusal gives the empty table. Public for the reader of a run file, which has refusals of its own.
-pub fn refused(why: Refusal, place: usize) -> Tabled
-    ensures { (verdict_paper result.answer ≡ refused_at (number_of why) place) × (result.table ≡ no_flows) }
+// A refusal gives the empty table.
+pub fn refused(why: Refusal, place: usize) -> Answered<Result<(), Refused>>
+    ensures { (verdict_paper result.answer ≡ refused_at (number_of why) place) × (result.state ≡ empty_table) }
 {
     let none = Table {
         n: 0,
@@ -54,159 +43,102 @@ pub fn refused(why: Refusal, place: usize) -> Tabled
         quanta: [0u32; 16],
         maxima: [0u32; 16],
     };
-    Tabled {
-        answer: Verdict::Refused(why, place),
-        table: none,
+    Answered {
+        answer: Err(Refused { why, place }),
+        state: fresh(none),
     }
 }
 
-// The table of the first `count` records and the terms.
-fn filled(records: [FlowRecord; 17], count: usize, terms: Terms) -> Table
-    requires { count ≤ most_flows }
-    ensures { result ≡ table_for (take count records) terms }
+// The fresh state of a table that was made, or a refusal with the empty table. Public for the reader of a run
+// file, which has refusals of its own.
+pub fn made(table: Result<Table, Refused>) -> Answered<Result<(), Refused>>
+    ensures { reply (verdict_paper result.answer) result.state
+        ≡ reply (verdict_paper table) (fresh_state (result_unwrap_or table no_flows)) }
+{
+    match table {
+        Ok(table) => Answered {
+            answer: Ok(()),
+            state: fresh(table),
+        },
+        Err(fault) => refused(fault.why, fault.place),
+    }
+}
+
+// The table of the records and the terms.
+fn filled(records: &[FlowRecord], terms: Terms) -> Table
+    requires { length records.now ≤ most_flows }
+    ensures { result ≡ table_for records.now terms }
 {
     let mut quanta = [0u32; 16];
     let mut maxima = [0u32; 16];
-    let mut f: usize = 0;
-    while f < count {
-        let record = records[f];
+    for (f, record) in records.iter().enumerate() {
         quanta[f] = record.quantum;
         maxima[f] = record.maximum;
-        f += 1;
     }
     Table {
-        n: count,
+        n: records.len(),
         overhead: terms.overhead,
-        quanta: quanta,
-        maxima: maxima,
+        quanta,
+        maxima,
     }
 }
 
 // The first fault, flow by flow, the quantum's before the maximum's.
-fn flows_answer(records: [FlowRecord; 17], count: usize) -> Verdict
-    requires { count ≤ most_flows }
-    ensures { verdict_paper result ≡ flows_answer 0 (take count records) }
+fn judged(records: &[FlowRecord]) -> Result<(), Refused>
+    ensures { verdict_paper result ≡ flows_answer 0 records.now }
 {
-    let mut f: usize = 0;
-    while f < count {
-        let record = records[f];
+    for (place, record) in records.iter().enumerate() {
         let quantum = record.quantum;
-        if !((drr::LEAST_QUANTUM <= quantum) & (quantum <= drr::MOST_QUANTUM)) {
-            return Verdict::Refused(Refusal::QuantumRange, f);
+        if quantum < drr::LEAST_QUANTUM || drr::MOST_QUANTUM < quantum {
+            return Err(Refused {
+                why: Refusal::QuantumRange,
+                place,
+            });
         }
         let maximum = record.maximum;
-        if !((drr::LEAST_MAXIMUM <= maximum) & (maximum <= drr::MOST_MAXIMUM)) {
-            return Verdict::Refused(Refusal::MaximumRange, f);
+        if maximum < drr::LEAST_MAXIMUM || drr::MOST_MAXIMUM < maximum {
+            return Err(Refused {
+                why: Refusal::MaximumRange,
+                place,
+            });
         }
-        f += 1;
     }
-    Verdict::Fine
+    Ok(())
 }
 
 // Setup's answer on a list and the terms, and the table that it makes.
-pub fn table_of(list: FlowList, terms: Terms) -> Tabled
-    ensures { (verdict_paper result.answer ≡ setup_answer (records_in list) terms) × (result.table ≡ setup_table (records_in list) terms) }
+pub fn table_of(list: FlowList, terms: Terms) -> Result<Table, Refused>
+    ensures { (verdict_paper result ≡ setup_answer (records_in list) terms)
+        × (result_unwrap_or result no_flows ≡ setup_table (records_in list) terms) }
 {
     if drr::MOST_OVERHEAD < terms.overhead {
-        return refused(Refusal::OverheadRange, 0);
+        return Err(Refusal::OverheadRange.into());
     }
-    let records = list.records;
-    let count = list.count;
-    if (count == 0) | (drr::MOST_FLOWS < count) {
-        return refused(Refusal::FlowCount, 0);
+    if list.count == 0 || drr::MOST_FLOWS < list.count {
+        return Err(Refusal::FlowCount.into());
     }
-    let answer = flows_answer(records, count);
-    if let Verdict::Refused(why, place) = answer {
-        return refused(why, place);
-    }
-    let table = filled(records, count, terms);
-    Tabled {
-        answer: Verdict::Fine,
-        table: table,
-    }
+    let records = &list.records[..list.count];
+    judged(records)?;
+    Ok(filled(records, terms))
 }
 
 // Setup of a list as it is carried.
-pub fn setup_of(list: FlowList, terms: Terms) -> Made
+pub fn setup_of(list: FlowList, terms: Terms) -> Answered<Result<(), Refused>>
     ensures { reply (verdict_paper result.answer) result.state ≡ setup_reply (records_in list) terms }
 {
-    let made = table_of(list, terms);
-    let answer = made.answer;
-    let table = made.table;
-    let state = fresh(table);
-    Made {
-        answer: answer,
-        state: state,
-    }
+    made(table_of(list, terms))
 }
 
-// What is copied so far, how many are to be copied, and the terms.
-#[derive(Clone, Copy)]
-struct Copied {
-    records: [FlowRecord; 17],
-    at: usize,
-    todo: usize,
-    terms: Terms,
-}
-
-// The smaller of the two.
-fn at_most(count: usize, most: usize) -> usize
-    ensures { result ≡ min count most }
-{
-    if count < most { count } else { most }
-}
-
-fn started(count: usize, terms: Terms) -> Copied
-    ensures { result ≡ started_of count terms }
+// Setup of a lent list of any length: more than seventeen records are refused as seventeen are.
+pub fn setup(list: &[FlowRecord], terms: Terms) -> Answered<Result<(), Refused>>
+    ensures { reply (verdict_paper result.answer) result.state ≡ setup_reply list.now terms }
 {
     let none = FlowRecord {
         quantum: 0,
         maximum: 0,
     };
-    let todo = at_most(count, 17);
-    Copied {
-        records: [none; 17],
-        at: 0,
-        todo: todo,
-        terms: terms,
-    }
-}
-
-fn put(c: Copied, f: FlowRecord) -> Copied
-    requires { c.at < 17 }
-    ensures { result ≡ put_of c f }
-{
-    let at = c.at;
-    let mut records = c.records;
-    let terms = c.terms;
-    records[at] = f;
-    Copied {
-        records: records,
-        at: at + 1,
-        todo: c.todo,
-        terms: terms,
-    }
-}
-
-fn finished(c: Copied) -> Made
-    ensures { reply (verdict_paper result.answer) result.state ≡ setup_reply (take c.at c.records) c.terms }
-{
-    let records = c.records;
-    let terms = c.terms;
-    let list = FlowList {
-        records: records,
-        count: c.at,
-    };
-    setup_of(list, terms)
-}
-
-// Setup of a lent list of any length: more than seventeen records are refused as seventeen are.
-pub fn setup(list: &[FlowRecord], terms: Terms) -> Made
-    ensures { reply (verdict_paper result.answer) result.state ≡ setup_reply list.now terms }
-{
-    let mut c = started(list.len(), terms);
-    while c.at < c.todo {
-        c = put(c, list[c.at]);
-    }
-    finished(c)
+    let mut records = [none; 17];
+    let count = list.len().min(17);
+    records[..count].copy_from_slice(&list[..count]);
+    setup_of(FlowList { records, count }, terms)
 }

@@ -3,4 +3,3 @@ pub mod Texts
 pub mod Lines
 pub mod Rows
 pub mod Words
-pub mod Bytes

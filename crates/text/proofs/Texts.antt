@@ -1,48 +1,26 @@
 -- Numbers in decimal, and texts put into a buffer one after the other.
-use mathlib.Core.Path.{◌≡◌, refl, sym, ap, ◌∙◌}
+use mathlib.Core.Path.{◌≡◌, refl, sym, ap, subst, ◌∙◌}
 use mathlib.Core.Bool.{Bool, true, false, cond}
-use mathlib.Core.List.{List, [], ◌∷◌, ◌++◌}
+use mathlib.Core.List.{List, [], ◌∷◌, ◌++◌, append_assoc}
 use Prim.Native.Nat.{ℕ, zero, suc, ◌+◌, ◌-◌, ◌/◌, ◌%◌, ◌^◌, ◌≤◌, ◌<◌}
-use native.Mathlib.Nat.{add-zero, mod-lt, pow-succ'}
-use native.Mathlib.Numerals.{add-one}
+use native.Mathlib.Nat.{add-zero, pow-succ'}
 use native.Mathlib.Omega.{arith}
-use borrow.Author.Tests.{lt-ltb, le-ltb, eq-eqb, ne_eqb, eqb-true, eqb-false}
-use lib.ListN.{length, get_or, set, drop, length-append}
+use borrow.Author.Tests.{lt-ltb, le-ltb, eqb-true, eqb-false}
+use lib.ListN.{length, set, take, drop, length-append}
 use lib.Dec.{eqb, ltb}
-use lib.Seq.{sets, sets-eq, set_comm, drop-cons, length-take-le}
+use lib.Seq.{sets, sets-eq, length-sets, length-take-le}
+use Rattle.std.proofs.lemmas.List.Edits.{paste_all}
+use Rattle.std.proofs.lemmas.Slice.{put_mid-paste}
+use borrow.Rule.Slice.PartMut.{put_mid}
+use Rattle.std.proofs.Common.{inl, inr}
+use Rattle.std.proofs.lemmas.Bool.{cases_lt}
+use Rattle.std.proofs.Math.Nat.{pow-le-pow_right}
+use Rattle.text.specs.declared.Out.{Out}
 use Rattle.io.specs.Counts.{IsPrefixLen}
 use Rattle.io.specs.Digits.{last_digits, hex_digit_ascii, IsDigitCount}
-use Rattle.text.specs.Text.{further, places, decimal, overlaid, Put}
-
--- what is left of a list from i on, and what comes first of it
-pub drop_first : (l : List ℕ) (i : ℕ) → i < length l → drop i l ≡ get_or l i 0 ∷ drop (i + 1) l
-drop_first l i h = drop-cons l i 0 h ∙ ap (λ (k : ℕ). get_or l i 0 ∷ drop k l) (sym (add-one i))
+use Rattle.text.specs.Text.{further, places, decimal, overlaid, Put, Puts, HasRoom}
 
 -- ---- the digits of a number
-pub places_first : (n : ℕ) → 1 + further 19 (n / 10) ≡ places n
-unfolding places
-places_first n = omega arith
-
-pub no_further : (f rest : ℕ) → rest ≡ 0 → further f rest ≡ 0
-no_further zero rest e = refl
-no_further (suc f) rest e = rw (eq-eqb rest 0 e)
-
-one_further : (f rest : ℕ) → (rest ≡ 0 → ⊥) → further (suc f) rest ≡ suc (further f (rest / 10))
-one_further f rest ne = rw (ne_eqb rest 0 ne)
-
-pub places_step : (p k rest : ℕ) → k < 20 → (rest ≡ 0 → ⊥) → k + further (20 - k) rest ≡ p → k + 1 + further (20 - (k + 1)) (rest / 10) ≡ p
-places_step p k rest h ne e =
-    let j : ℕ = 20 - (k + 1) in
-    let e1 : 20 - k ≡ suc j = omega arith in
-    let e2 : further (20 - k) rest ≡ suc (further j (rest / 10)) = ap (λ (f : ℕ). further f rest) e1 ∙ one_further j rest ne in
-    omega (arith, e2, e)
-
-pub places_last : (p k rest : ℕ) → k ≤ 20 → 20 ≤ k → k + further (20 - k) rest ≡ p → k ≡ p
-places_last p k rest h g e =
-    let e1 : 20 - k ≡ 0 = omega arith in
-    let e2 : further (20 - k) rest ≡ 0 = ap (λ (f : ℕ). further f rest) e1 in
-    omega (arith, e2, e)
-
 pub digits_length : (k n : ℕ) → length (last_digits 10 k n) ≡ k
 digits_length zero n = refl
 digits_length (suc k) n = length-append (last_digits 10 k (n / 10)) (hex_digit_ascii (n % 10) ∷ []) ∙ omega (arith, digits_length k (n / 10))
@@ -74,45 +52,14 @@ sets_two b (x ∷ u) v at =
     let e : at + suc (length u) ≡ suc at + length u = omega arith in
     ap (λ (i : ℕ). sets (sets b at (x ∷ u)) i v) e ∙ sets_two (set b at x) u v (suc at)
 
--- a byte, and a text behind it
-pub one_more : (b v b' : List ℕ) (at x r : ℕ) → Put (set b at x) (at + 1) v b' r → Put b at (x ∷ v) b' r
-one_more b v b' at x r q = (q.0 ∙ ap (λ (i : ℕ). sets (set b at x) i v) (add-one at), omega (arith, q.1))
-
 pub put_none : (b : List ℕ) (at : ℕ) → Put b at [] b at
 put_none b at = (refl, sym (add-zero at))
 
-pub put_decimal : (b b' : List ℕ) (at n k : ℕ) → k ≡ places n → b' ≡ sets b at (last_digits 10 k n) → Put b at (decimal n) b' (at + k)
-unfolding decimal
-put_decimal b b' at n k e p =
-    (p ∙ ap (λ (x : ℕ). sets b at (last_digits 10 x n)) e, omega (arith, e, decimal_length n))
-
--- a byte behind a text can be put before it
-sets_set : (b u : List ℕ) (at k x : ℕ) → at + length u ≤ k → sets (set b k x) at u ≡ set (sets b at u) k x
-sets_set b [] at k x h = refl
-sets_set b (y ∷ u) at k x h =
-    ap (λ (l : List ℕ). sets l (suc at) u) (set_comm b k at x y (λ e. omega arith))
-    ∙ sets_set (set b at y) u (suc at) k x (omega arith)
-
--- a turn of the loop that writes the digits: one more, before those that are written
-pub digit_turn : (b : List ℕ) (at i rest : ℕ) → 0 < i →
-    sets (set b (at + (i - 1)) (48 + rest % 10)) at (last_digits 10 (i - 1) (rest / 10)) ≡ sets b at (last_digits 10 i rest)
-digit_turn b at i rest h =
-    let j : ℕ = i - 1 in
-    let u : List ℕ = last_digits 10 j (rest / 10) in
-    let x : ℕ = 48 + rest % 10 in
-    let n : length u ≡ j = digits_length j (rest / 10) in
-    let g : x ≡ hex_digit_ascii (rest % 10) = sym (glyph_low (rest % 10) (mod-lt rest (omega arith))) in
-    let e : suc j ≡ i = omega arith in
-    sets_set b u at (at + j) x (omega (arith, n))
-    ∙ ap (λ (k : ℕ). set (sets b at u) (at + k) x) (sym n)
-    ∙ sets_two b u (x ∷ []) at
-    ∙ ap (λ (y : ℕ). sets b at (u ++ (y ∷ []))) g
-    ∙ ap (λ (k : ℕ). sets b at (last_digits 10 k rest)) e
-
-pub digits_done : (b b' : List ℕ) (at i rest : ℕ) → i ≤ 0 → sets b at (last_digits 10 i rest) ≡ b' → b ≡ b'
-digits_done b b' at i rest h e =
-    let z : 0 ≡ i = omega arith in
-    ap (λ (x : ℕ). sets b at (last_digits 10 x rest)) z ∙ e
+-- bytes copied to their place
+pub put_part : (b v w : List ℕ) (at k : ℕ) → at + length v ≤ length b → w ≡ v → length v ≡ k → put_mid at k b w ≡ sets b at v
+put_part b v w at k h e n =
+    put_mid-paste at k b w v (length v) e n refl ∙ paste_all b at v (length v) refl
+    ∙ sym (append_assoc (take at b) v (drop (at + length v) b)) ∙ sym (sets-eq v b at h)
 
 -- ---- a text put part by part: what is left to put gives the whole
 pub record Left (b₀ : List ℕ) (at₀ : ℕ) (whole b : List ℕ) (at : ℕ) (rest : List ℕ) : Type 0 where
@@ -138,16 +85,44 @@ module _ {b₀ : List ℕ} {at₀ : ℕ} {whole b : List ℕ} {at : ℕ} {rest :
     pub left_room : at + length u ≤ length b
     left_room = omega (arith, both, p.fits, p.size)
 
-    pub left_next : (b' : List ℕ) (r : ℕ) → Put b at u b' r → length b' ≡ length b → Left b₀ at₀ whole b' r v
-    left_next b' r q same =
+    pub left_then : (b' : List ℕ) (r : ℕ) → Put b at u b' r → Left b₀ at₀ whole b' r v
+    left_then b' r q =
         let two : sets b' r v ≡ sets b at (u ++ v) =
         ap (λ (x : List ℕ). sets x r v) q.0 ∙ ap (λ (i : ℕ). sets (sets b at u) i v) q.1 ∙ sets_two b u v at in
         record {
           fits = p.fits;
-          size = same ∙ p.size;
+          size = ap length q.0 ∙ length-sets b at u ∙ p.size;
           text = two ∙ ap (sets b at) (sym is) ∙ p.text;
           count = omega (arith, q.1, both);
         }
+
+    -- .. where the length that the buffer keeps is said too
+    pub left_next : (b' : List ℕ) (r : ℕ) → Put b at u b' r → length b' ≡ length b → Left b₀ at₀ whole b' r v
+    left_next b' r q same = left_then b' r q
+
+-- ---- a text and then another put into the same buffer
+pub puts_two : {out mid out' : Out} {u v : List ℕ} → Puts out u mid → Puts mid v out' → Puts out (u ++ v) out'
+puts_two {out} {mid} {out'} {u} {v} p q =
+    let b : List ℕ = out.buf.now in
+    record {
+      same_buffer = q.same_buffer ∙ p.same_buffer;
+      put = (
+        q.put.0 ∙ ap (λ (l : List ℕ). sets l mid.at v) p.put.0 ∙ ap (λ (i : ℕ). sets (sets b out.at u) i v) p.put.1
+            ∙ sets_two b u v out.at,
+        omega (arith, p.put.1, q.put.1, length-append u v),
+      );
+    }
+
+pub puts_as : {out out' : Out} {u v : List ℕ} → u ≡ v → Puts out v out' → Puts out u out'
+puts_as {out} {out'} e p = subst (λ (t : List ℕ). Puts out t out') (sym e) p
+
+-- room for both is room for the first, and then for the other
+pub room_first : (out : Out) (w u v : List ℕ) → w ≡ u ++ v → HasRoom out w → HasRoom out u
+room_first out w u v e room = omega (arith, ap length e, length-append u v)
+
+pub room_then : {out mid : Out} (w : List ℕ) {u : List ℕ} (v : List ℕ) → w ≡ u ++ v → HasRoom out w → Puts out u mid → HasRoom mid v
+room_then {out} {mid} w {u} v e room p =
+    omega (arith, ap length e, length-append u v, p.put.1, ap length p.put.0, length-sets out.buf.now out.at u)
 
 -- ---- the whole text, from the start of a buffer
 abbrev pub Filled : List ℕ → List ℕ → List ℕ → ℕ → Type 0
@@ -193,3 +168,22 @@ places_fewest n h =
     let g = further_span 19 n h in
     let e : suc j - 1 ≡ j = omega arith in
     (omega arith, g.0, λ z. omega (arith, ap (λ (i : ℕ). 10 ^ i) e, g.1 (omega arith)))
+
+not_below : (n i j : ℕ) → IsDigitCount 10 1 n i → IsDigitCount 10 1 n j → j ≤ i
+not_below n i j p q = elim (cases_lt i j) [
+  | inl l ↦
+      let m : 10 ^ i ≤ 10 ^ (j - 1) = pow-le-pow_right (omega arith) (omega arith) in
+      absurd (omega (arith, p.1, q.2 (omega (arith, p.0)), m))
+  | inr h ↦ h
+]
+
+-- .. and no other number of digits is
+pub places_only : (n k : ℕ) → n < 10 ^ 20 → IsDigitCount 10 1 n k → k ≡ places n
+places_only n k h d =
+    let e = places_fewest n h in
+    omega (arith, not_below n k (places n) d e, not_below n (places n) k e d)
+
+-- as many last digits as a number has
+pub decimal_is : (n k : ℕ) (w : List ℕ) → n < 10 ^ 20 → IsDigitCount 10 1 n k → w ≡ last_digits 10 k n → w ≡ decimal n
+unfolding decimal
+decimal_is n k w h d e = e ∙ ap (λ (i : ℕ). last_digits 10 i n) (places_only n k h d)

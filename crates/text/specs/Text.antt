@@ -1,13 +1,10 @@
 -- Text: "The run file and its listing" has the listing's; beside it rows of numbers, titles and times, a number between two texts, and a
 -- word read as a number. A text is the list of its bytes; 32 is the space, 10 ends a line.
-use Rattle.std.specs.Prelude.{◌≡◌, Bool, true, false, cond, ◌&&◌, List, [], ◌∷◌, ◌++◌, map, ℕ, zero, suc, ◌+◌, ◌-◌, ◌*◌, ◌/◌, eqb, ltb, leb, length, take, drop}
+use Rattle.std.specs.Prelude.{◌≡◌, Bool, true, false, cond, ◌&&◌, Option, Some, None, List, [], ◌∷◌, ◌++◌, map, ℕ, zero, suc, ◌+◌, ◌-◌, ◌*◌, ◌/◌, ◌≤◌, eqb, ltb, leb, length, take, drop}
 use Rattle.std.proofs.lemmas.List.Edits.{sets}
 use Rattle.io.specs.Digits.{last_digits}
 use Rattle.text.specs.Spelt.{spelt}
-use Rattle.text.specs.declared.Form.{Form}
-use Rattle.text.specs.declared.Form.TheVariants.{Line, NoLine}
-use Rattle.text.specs.declared.Word.{Word}
-use Rattle.text.specs.declared.Word.TheVariants.{Number, NoNumber}
+use Rattle.text.specs.declared.Out.{Out}
 
 -- how many digits stand before the last one, where `rest` is the number without its last digit; at most as many as the first number says
 abbrev pub further : ℕ → ℕ → ℕ
@@ -43,30 +40,34 @@ spaced_text (n ∷ ns) = field_text n ++ spaced_text ns
 abbrev pub fields_text : List ℕ → List ℕ
 fields_text ns = rest_text (map decimal ns)
 
+-- how a line is printed: a letter, and how many of its fields
+abbrev pub Form : Type 0
+Form = ℕ × ℕ
+
 -- a line in its form: the letter, the first so many of its fields, and what stands beside it; no text for no form
-abbrev pub form_text : Form → List ℕ → List ℕ → List ℕ
-form_text (Line letter count) fields beside = letter ∷ fields_text (take count fields ++ beside)
-form_text NoLine fields beside = []
+abbrev pub form_text : Option Form → List ℕ → List ℕ → List ℕ
+form_text (Some form) fields beside = form.0 ∷ fields_text (take form.1 fields ++ beside)
+form_text None fields beside = []
 
 -- how many fields a form prints
-abbrev pub fields_in : Form → ℕ
-fields_in (Line letter count) = count
-fields_in NoLine = 0
+abbrev pub fields_in : Option Form → ℕ
+fields_in (Some form) = form.1
+fields_in None = 0
 
 -- the lines of a listing, one entry each: the kind, and as its form the letter and how many of the five fields are printed
 unfoldable pub kinds : List (ℕ × Form)
 kinds =
     -- "1, start tick, flow, length, deficit after, visits (printed `S`)"
-    (1, Line 83 5) ∷
+    (1, (83, 5)) ∷
     -- "2, the event's tick, flow, length, refusal number, 0 (printed `D`, last 0 left out)"
-    (2, Line 68 4) ∷
+    (2, (68, 4)) ∷
     -- "3, tick when the line fell free, packets sent, events refused, 0, 0 (printed `E`, zeros left out)"
-    (3, Line 69 3) ∷ []
+    (3, (69, 3)) ∷ []
 
 -- the form of a kind by such a table; none for a kind that it does not have
-abbrev pub form_in : List (ℕ × Form) → ℕ → Form
-form_in [] kind = NoLine
-form_in (entry ∷ more) kind = cond (eqb kind entry.0) entry.1 (form_in more kind)
+abbrev pub form_in : List (ℕ × Form) → ℕ → Option Form
+form_in [] kind = None
+form_in (entry ∷ more) kind = cond (eqb kind entry.0) (Some entry.1) (form_in more kind)
 
 -- what stands beside a line: the first of the numbers that are left for it, if there is one; nothing beside line 3
 abbrev pub beside_line : ℕ → List ℕ → List ℕ
@@ -176,17 +177,26 @@ overlaid text b = text ++ drop (length text) b
 abbrev pub Put : List ℕ → ℕ → List ℕ → List ℕ → ℕ → Type 0
 Put b at v b' end = (b' ≡ sets b at v) × (end ≡ at + length v)
 
+-- a text put so where the buffer stands at, and the buffer is the one that was lent
+pub record Puts (out : Out) (v : List ℕ) (out' : Out) : Type 0 where
+  pub same_buffer : out'.buf.ghost_name ≡ out.buf.ghost_name
+  pub put : Put out.buf.now out.at v out'.buf.now out'.at
+
+-- room for a text
+abbrev pub HasRoom : Out → List ℕ → Type 0
+HasRoom out v = out.at + length v ≤ length out.buf.now
+
 -- ---- a number as a word: decimal digits alone, at least one, and no more than eighteen nines
 abbrev pub most_number : ℕ
 most_number = 999999999999999999
 
 -- the digits from here on, where those before them gave n
-abbrev pub read_on : ℕ → List ℕ → Word
-read_on n [] = Number n
-read_on n (d ∷ ds) = cond (leb 48 d && leb d 57 && leb (10 * n + (d - 48)) most_number) (read_on (10 * n + (d - 48)) ds) NoNumber
+abbrev pub read_on : ℕ → List ℕ → Option ℕ
+read_on n [] = Some n
+read_on n (d ∷ ds) = cond (leb 48 d && leb d 57 && leb (10 * n + (d - 48)) most_number) (read_on (10 * n + (d - 48)) ds) None
 
-abbrev pub word_of : List ℕ → Word
-word_of [] = NoNumber
+abbrev pub word_of : List ℕ → Option ℕ
+word_of [] = None
 word_of (d ∷ ds) = read_on 0 (d ∷ ds)
 
 -- whether two texts are the same bytes

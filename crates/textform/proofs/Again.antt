@@ -12,7 +12,7 @@ use Rattle.drr.specs.declared.FlowRecord.{FlowRecord}
 use Rattle.drr.proofs.Bools.{by_test}
 use Rattle.drr.proofs.Tables.{InRange}
 use Rattle.runfile.specs.File.{Event}
-use Rattle.text.specs.declared.Word.TheVariants.{Number}
+use Rattle.std.specs.Prelude.{Some, Ok}
 use Rattle.text.specs.Spelt.{spelt}
 use Rattle.text.specs.Text.{places, decimal, spaced_text, fields_text, around, most_number}
 use Rattle.text.proofs.Texts.{decimal_length}
@@ -119,7 +119,7 @@ module _ (word ns : List ℕ) (plain : Plain word) (some : 0 < length word) wher
       ∙ ap item_in (word_on [] word (spaced_text ns) plain ∙ fields_words word ns some)
 
 -- ---- a record's line
-field_read : (least most n : ℕ) → least ≤ n → n ≤ most → n ≤ most_number → field least most (decimal n) ≡ Number n
+field_read : (least most n : ℕ) → least ≤ n → n ≤ most → n ≤ most_number → field least most (decimal n) ≡ Some n
 field_read least most n low high fits =
     ap (in_range least most) (decimal_read n fits) ∙ rw (le-leb least n low, le-leb n most high)
 
@@ -152,23 +152,23 @@ flow_split r rest = line_split flow_word (r.quantum ∷ r.maximum ∷ []) flow_w
 pub event_split : (e : Event) (rest : List ℕ) → lines_of (event_text e ++ rest) ≡ event_line e ∷ lines_of rest
 event_split e rest = line_split event_word (e.tick ∷ e.flow ∷ e.length ∷ []) event_word_lem (omega arith) rest
 
-pub overhead_item_lem : (o : ℕ) → o ≤ most_overhead → item_of (overhead_line o) ≡ OverheadOf o
+pub overhead_item_lem : (o : ℕ) → o ≤ most_overhead → item_of (overhead_line o) ≡ Ok (OverheadOf o)
 overhead_item_lem o h =
     let n = field_read 0 most_overhead o (omega arith) h (omega (arith, h)) in
     line_item overhead_word (o ∷ []) overhead_word_lem (omega arith)
-    ∙ (λ i. given (n i) want.Overhead (λ a. OverheadOf a))
+    ∙ (λ i. given (n i) want.Overhead (λ a. Ok (OverheadOf a)))
 
-pub flow_item_lem : (r : FlowRecord) → InRange r → item_of (flow_line r) ≡ FlowOf r.quantum r.maximum
+pub flow_item_lem : (r : FlowRecord) → InRange r → item_of (flow_line r) ≡ Ok (FlowOf r.quantum r.maximum)
 flow_item_lem r h =
     let q = field_read least_quantum most_quantum r.quantum h.quantum.0 h.quantum.1 (omega (arith, h.quantum.1)) in
     let l = field_read least_maximum most_maximum r.maximum h.maximum.0 h.maximum.1 (omega (arith, h.maximum.1)) in
     line_item flow_word (r.quantum ∷ r.maximum ∷ []) flow_word_lem (omega arith)
-    ∙ (λ i. given (q i) want.Quantum (λ a. given (l i) want.Maximum (λ b. FlowOf a b)))
+    ∙ (λ i. given (q i) want.Quantum (λ a. given (l i) want.Maximum (λ b. Ok (FlowOf a b))))
 
-pub event_item_lem : (e : Event) → InFields e → item_of (event_line e) ≡ EventOf e.tick e.flow e.length
+pub event_item_lem : (e : Event) → InFields e → item_of (event_line e) ≡ Ok (EventOf e.tick e.flow e.length)
 event_item_lem e h =
     let t = field_read 0 most_of4 e.tick (omega arith) h.tick (omega (arith, h.tick)) in
     let f = field_read 0 most_of2 e.flow (omega arith) h.flow (omega (arith, h.flow)) in
     let n = field_read 0 most_of2 e.length (omega arith) h.size (omega (arith, h.size)) in
     line_item event_word (e.tick ∷ e.flow ∷ e.length ∷ []) event_word_lem (omega arith)
-    ∙ (λ i. given (t i) want.Tick (λ a. given (f i) want.Flow (λ b. given (n i) want.Length (λ c. EventOf a b c))))
+    ∙ (λ i. given (t i) want.Tick (λ a. given (f i) want.Flow (λ b. given (n i) want.Length (λ c. Ok (EventOf a b c)))))

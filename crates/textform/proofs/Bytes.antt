@@ -5,17 +5,14 @@ use Prim.Native.Nat.{ℕ, zero, suc, ◌+◌, ◌*◌, ◌/◌, ◌%◌, ◌≤�
 use native.Mathlib.Nat.{add-zero}
 use native.Mathlib.Numerals.{add-one}
 use native.Mathlib.Omega.{arith}
-use lib.ListN.{length, get_or, take, drop, length-append}
-use lib.Seq.{drop-cons, drop-append_seam, drop-drop, get_or-drop}
+use lib.ListN.{length, get_or, drop, length-append}
+use lib.Seq.{drop-cons, drop-drop, get_or-drop}
 use Rattle.drr.specs.declared.FlowRecord.{FlowRecord}
 use Rattle.runfile.specs.File.{Event, le2, le4, header_size, flows_from, event_at, events_from}
 use Rattle.textform.specs.Made.{bytes2, bytes4, flow_bytes, event_bytes, each, header_bytes, record_bytes, file_of}
 use Rattle.textform.specs.Shown.{Bytes}
 
 -- ---- how many bytes there are
-pub header_length : (n m o : ℕ) → length (header_bytes n m o) ≡ header_size
-header_length n m o = refl
-
 pub flows_size : (xs : List FlowRecord) → length (each flow_bytes xs) ≡ 8 * length xs
 flows_size [] = refl
 flows_size (x ∷ xs) = omega (arith, flows_size xs)
@@ -58,12 +55,6 @@ module _ (b r : List ℕ) (i n : ℕ) where
 
   pub read4_at : drop i b ≡ bytes4 n ++ r → le4 b i ≡ n
   read4_at e = ap (le4 b) (sym (add-zero i)) ∙ sym (le4_drop b i 0) ∙ ap (λ (l : List ℕ). le4 l 0) e ∙ read4 n r
-
-pub read2_behind : (p r : List ℕ) (n : ℕ) → le2 (p ++ (bytes2 n ++ r)) (length p) ≡ n
-read2_behind p r n = read2_at (p ++ (bytes2 n ++ r)) r (length p) n (drop-append_seam p (bytes2 n ++ r))
-
-pub read4_behind : (p r : List ℕ) (n : ℕ) → le4 (p ++ (bytes4 n ++ r)) (length p) ≡ n
-read4_behind p r n = read4_at (p ++ (bytes4 n ++ r)) r (length p) n (drop-append_seam p (bytes4 n ++ r))
 
 -- ---- records are read back from their bytes, from number i of a table on
 pub flows_read : (xs : List FlowRecord) (t r : List ℕ) (i : ℕ) → drop (8 * i) t ≡ each flow_bytes xs ++ r → flows_from t i (length xs) ≡ xs
@@ -113,9 +104,6 @@ module _ (b : List ℕ) (low : Bytes b) (i : ℕ) where
   pub low2 : le2 b i < 65536
   low2 = omega (arith, low i, low (i + 1))
 
-  pub take2 : i + 2 ≤ length b → bytes2 (le2 b i) ≡ take 2 (drop i b)
-  take2 h = ap (take 2) (again2 h)
-
 module _ (b : List ℕ) (low : Bytes b) (i : ℕ) where
   pub again4 : i + 4 ≤ length b → bytes4 (le4 b i) ++ drop (i + 4) b ≡ drop i b
   again4 h =
@@ -128,9 +116,6 @@ module _ (b : List ℕ) (low : Bytes b) (i : ℕ) where
 
   pub low4 : le4 b i < 4294967296
   low4 = omega (arith, low2 b low i, low2 b low (i + 2))
-
-  pub take4 : i + 4 ≤ length b → bytes4 (le4 b i) ≡ take 4 (drop i b)
-  take4 h = ap (take 4) (again4 h)
 
 -- .. and with those of the records read there
 module _ (t : List ℕ) (low : Bytes t) where
@@ -162,48 +147,3 @@ module _ (t : List ℕ) (low : Bytes t) where
       ∙ ap (λ (n : ℕ). bytes4 x.tick ++ (bytes2 x.flow ++ drop n t)) n6
       ∙ ap (λ (l : List ℕ). bytes4 x.tick ++ l) (again2 t low (8 * i + 4) (omega arith))
       ∙ again4 t low (8 * i) (omega arith)
-
--- ---- numbers that two and four bytes hold are written as bytes
-pub none_low : Bytes []
-none_low i = omega arith
-
-more_low : (x : ℕ) (b : List ℕ) → x < 256 → Bytes b → Bytes (x ∷ b)
-more_low x b h low zero = h
-more_low x b h low (suc i) = low i
-
-pub append_low : (a b : List ℕ) → Bytes a → Bytes b → Bytes (a ++ b)
-append_low [] b h low i = low i
-append_low (x ∷ a) b h low zero = h 0
-append_low (x ∷ a) b h low (suc i) = append_low a b (λ k. h (suc k)) low i
-
-pub bytes2_low : (n : ℕ) → n < 65536 → Bytes (bytes2 n)
-bytes2_low n h = more_low (n % 256) (n / 256 ∷ []) (omega arith) (more_low (n / 256) [] (omega arith) none_low)
-
-pub bytes4_low : (n : ℕ) → n < 4294967296 → Bytes (bytes4 n)
-bytes4_low n h =
-    append_low (bytes2 (n % 65536)) (bytes2 (n / 65536)) (bytes2_low (n % 65536) (omega arith)) (bytes2_low (n / 65536) (omega arith))
-
-pub header_low : (n m o : ℕ) → n < 65536 → m < 65536 → o < 4294967296 → Bytes (header_bytes n m o)
-header_low n m o hn hm ho =
-    let counts : List ℕ = bytes2 n ++ bytes2 m in
-    let flows : List ℕ = counts ++ bytes4 header_size in
-    let events : List ℕ = flows ++ bytes4 (header_size + 8 * n) in
-    let all : List ℕ = events ++ bytes4 (header_size + 8 * n + 8 * m) in
-    append_low all (bytes4 o)
-    (append_low events (bytes4 (header_size + 8 * n + 8 * m))
-    (append_low flows (bytes4 (header_size + 8 * n))
-    (append_low counts (bytes4 header_size)
-    (append_low (bytes2 n) (bytes2 m) (bytes2_low n hn) (bytes2_low m hm))
-    (bytes4_low header_size (omega arith)))
-    (bytes4_low (header_size + 8 * n) (omega arith)))
-    (bytes4_low (header_size + 8 * n + 8 * m) (omega arith)))
-    (bytes4_low o ho)
-
-pub flow_low : (x : FlowRecord) → x.quantum < 4294967296 → x.maximum < 4294967296 → Bytes (flow_bytes x)
-flow_low x q l = append_low (bytes4 x.quantum) (bytes4 x.maximum) (bytes4_low x.quantum q) (bytes4_low x.maximum l)
-
-pub event_low : (e : Event) → e.tick < 4294967296 → e.flow < 65536 → e.length < 65536 → Bytes (event_bytes e)
-event_low e t f n =
-    append_low (bytes4 e.tick ++ bytes2 e.flow) (bytes2 e.length)
-    (append_low (bytes4 e.tick) (bytes2 e.flow) (bytes4_low e.tick t) (bytes2_low e.flow f))
-    (bytes2_low e.length n)

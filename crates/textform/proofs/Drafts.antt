@@ -16,23 +16,22 @@ use Rattle.drr.proofs.Bools.{by_test, within_of, and_left, and_right}
 use Rattle.drr.proofs.Tables.{InRange}
 use Rattle.runfile.specs.File.{Event, events_from, overhead_in, flows_in, events_in, ticks_answer, Sorted, file_answer, file_table}
 use Rattle.runfile.specs.Listing.{ticks_of, last_of}
-use Rattle.text.specs.declared.Word.{Word}
-use Rattle.text.specs.declared.Word.TheVariants.{Number, NoNumber}
 use Rattle.text.specs.Text.{same, word_of, overlaid}
 use Rattle.textform.specs.declared.Want.{Want}
 use Rattle.textform.specs.declared.Want.TheVariants as want
 use Rattle.textform.specs.declared.Item.{Item}
-use Rattle.textform.specs.declared.Item.TheVariants.{Nothing, OverheadOf, FlowOf, EventOf, Wrong}
-use Rattle.textform.specs.declared.Making.TheVariants.{File}
+use Rattle.textform.specs.declared.Item.TheVariants.{Nothing, OverheadOf, FlowOf, EventOf}
+use Rattle.std.specs.Prelude.{Option, Some, None, Result, Ok, Err}
 use Rattle.textform.specs.Grammar.{lines_of, uncommented, words_of, first, others, overhead_word, flow_word, event_word}
 use Rattle.textform.specs.Grammar.{in_range, field, given, nothing_more, most_of4, most_of2}
 use Rattle.textform.specs.Grammar.{overhead_item, flow_item, event_item, item_in, item_of}
 use Rattle.textform.specs.Made.{Draft, no_records, overhead_said, Step, goes, stops, with_overhead, with_flow, with_event, judged}
+use Rattle.textform.specs.Made.{judged_line}
 use Rattle.textform.specs.Made.{Outcome, made, fault, and_then, drafted, most_text, outcome_of}
-use Rattle.textform.specs.Made.{flow_bytes, event_bytes, each, header_bytes, record_bytes, file_of, bytes_in, made_bytes, making_in}
+use Rattle.textform.specs.Made.{file_of, bytes_in, made_bytes, making_in}
 use Rattle.textform.specs.Made.{making_of, most_made}
 use Rattle.textform.specs.Shown.{Bytes, FlowsThenEvents}
-use Rattle.textform.proofs.Bytes.{file_size, low2, low4, none_low, append_low, header_low, flow_low, event_low}
+use Rattle.textform.proofs.Bytes.{file_size, low2, low4}
 use Rattle.textform.proofs.Files.{no_gaps, header_read, overhead_back, flows_back, events_back}
 
 -- ---- what a line can say: numbers in their ranges
@@ -47,58 +46,62 @@ Says Nothing = Unit {0}
 Says (OverheadOf o) = o ≤ most_overhead
 Says (FlowOf q l) = InRange (record { quantum = q; maximum = l })
 Says (EventOf t f n) = InFields (record { tick = t; flow = f; length = n })
-Says (Wrong w) = Unit {0}
 
-abbrev In : ℕ → ℕ → Word → Type 0
-In least most (Number n) = (least ≤ n) × (n ≤ most)
-In least most NoNumber = Unit {0}
+-- .. if it says something, and not what was expected
+abbrev pub LineSays : Result Item Want → Type 0
+LineSays (Ok item) = Says item
+LineSays (Err w) = Unit {0}
 
-in_range_lem : (least most : ℕ) (w : Word) → In least most (in_range least most w)
-in_range_lem least most (Number n) =
+abbrev In : ℕ → ℕ → Option ℕ → Type 0
+In least most (Some n) = (least ≤ n) × (n ≤ most)
+In least most None = Unit {0}
+
+in_range_lem : (least most : ℕ) (w : Option ℕ) → In least most (in_range least most w)
+in_range_lem least most (Some n) =
     by_test (In least most) (leb least n && leb n most)
     (λ e. (leb-true least n (and_left (leb least n) (leb n most) e), leb-true n most (and_right (leb least n) (leb n most) e)))
     (λ _. tt)
-in_range_lem least most NoNumber = tt
+in_range_lem least most None = tt
 
-given_says : (least most : ℕ) (w : Word) (x : Want) (then : ℕ → Item) → In least most w →
-    ((n : ℕ) → least ≤ n → n ≤ most → Says (then n)) → Says (given w x then)
-given_says least most (Number n) x then h on = on n h.0 h.1
-given_says least most NoNumber x then h on = tt
+given_says : (least most : ℕ) (w : Option ℕ) (x : Want) (then : ℕ → Result Item Want) → In least most w →
+    ((n : ℕ) → least ≤ n → n ≤ most → LineSays (then n)) → LineSays (given w x then)
+given_says least most (Some n) x then h on = on n h.0 h.1
+given_says least most None x then h on = tt
 
-field_says : (least most : ℕ) (w : List ℕ) (x : Want) (then : ℕ → Item) →
-    ((n : ℕ) → least ≤ n → n ≤ most → Says (then n)) → Says (given (field least most w) x then)
+field_says : (least most : ℕ) (w : List ℕ) (x : Want) (then : ℕ → Result Item Want) →
+    ((n : ℕ) → least ≤ n → n ≤ most → LineSays (then n)) → LineSays (given (field least most w) x then)
 field_says least most w x then on = given_says least most (field least most w) x then (in_range_lem least most (word_of w)) on
 
-end_says : (w : List ℕ) (item : Item) → Says item → Says (nothing_more w item)
+end_says : (w : List ℕ) (item : Item) → Says item → LineSays (nothing_more w item)
 end_says [] item h = h
 end_says (b ∷ bs) item h = tt
 
-overhead_says : (ws : List (List ℕ)) → Says (overhead_item ws)
+overhead_says : (ws : List (List ℕ)) → LineSays (overhead_item ws)
 overhead_says ws =
     field_says 0 most_overhead (first ws) want.Overhead _ (λ o _ o1.
     end_says (first (others ws)) (OverheadOf o) o1)
 
-flow_says : (ws : List (List ℕ)) → Says (flow_item ws)
+flow_says : (ws : List (List ℕ)) → LineSays (flow_item ws)
 flow_says ws =
     field_says least_quantum most_quantum (first ws) want.Quantum _ (λ q q0 q1.
     field_says least_maximum most_maximum (first (others ws)) want.Maximum _ (λ l l0 l1.
     end_says (first (others (others ws))) (FlowOf q l) (record { quantum = (q0, q1); maximum = (l0, l1) })))
 
-event_says : (ws : List (List ℕ)) → Says (event_item ws)
+event_says : (ws : List (List ℕ)) → LineSays (event_item ws)
 event_says ws =
     field_says 0 most_of4 (first ws) want.Tick _ (λ t _ t1.
     field_says 0 most_of2 (first (others ws)) want.Flow _ (λ f _ f1.
     field_says 0 most_of2 (first (others (others ws))) want.Length _ (λ n _ n1.
     end_says (first (others (others (others ws)))) (EventOf t f n) (record { tick = t1; flow = f1; size = n1 }))))
 
-words_say : (ws : List (List ℕ)) → Says (item_in ws)
+words_say : (ws : List (List ℕ)) → LineSays (item_in ws)
 words_say [] = tt
 words_say (w ∷ ws) =
-    by_test Says (same w overhead_word) (λ _. overhead_says ws) (λ _.
-    by_test Says (same w flow_word) (λ _. flow_says ws) (λ _.
-    by_test Says (same w event_word) (λ _. event_says ws) (λ _. tt)))
+    by_test LineSays (same w overhead_word) (λ _. overhead_says ws) (λ _.
+    by_test LineSays (same w flow_word) (λ _. flow_says ws) (λ _.
+    by_test LineSays (same w event_word) (λ _. event_says ws) (λ _. tt)))
 
-pub line_says : (line : List ℕ) → Says (item_of line)
+pub line_says : (line : List ℕ) → LineSays (item_of line)
 unfolding item_of
 line_says line = words_say (words_of (uncommented line))
 
@@ -222,7 +225,6 @@ GoodStep (stops w) = Unit {0}
 
 pub judged_good : (d : Draft) (item : Item) → Good d → Says item → GoodStep (judged d item)
 judged_good d Nothing g h = g
-judged_good d (Wrong w) g h = tt
 judged_good d (OverheadOf o) g h =
     by_test GoodStep (ltb 0 (length d.flows)) (λ _. tt) (λ _.
     by_test GoodStep (ltb 0 (length d.overheads)) (λ _. tt) (λ none.
@@ -236,6 +238,10 @@ judged_good d (EventOf t f n) g h =
     by_test GoodStep (leb most_events (length d.events)) (λ _. tt) (λ few.
     by_test GoodStep (ltb t d.last) (λ _. tt) (λ later.
     event_good d t f n g (leb-false most_events (length d.events) few) (ltb-false t d.last later) h)))
+
+line_good : (d : Draft) (said : Result Item Want) → Good d → LineSays said → GoodStep (judged_line d said)
+line_good d (Ok item) g h = judged_good d item g h
+line_good d (Err w) g h = tt
 
 -- ---- the draft of a text, which has a flow
 abbrev pub GoodEnd : Outcome → Type 0
@@ -251,7 +257,7 @@ drafted_good : (i : ℕ) (d : Draft) (ls : List (List ℕ)) → Good d → GoodE
 drafted_good i d [] g =
     by_test GoodEnd (eqb (length d.flows) 0) (λ _. tt) (λ some. (g, omega (arith, eqb-false (length d.flows) 0 some)))
 drafted_good i d (l ∷ ls) g =
-    then_good (judged d (item_of l)) (λ next. drafted (i + 1) next ls) (λ w. fault (i + 1) w) (judged_good d (item_of l) g (line_says l))
+    then_good (judged_line d (item_of l)) (λ next. drafted (i + 1) next ls) (λ w. fault (i + 1) w) (line_good d (item_of l) g (line_says l))
     (λ next h. drafted_good (i + 1) next ls h) (λ _. tt)
 
 pub outcome_good : (text : List ℕ) → GoodEnd (outcome_of text)
@@ -263,10 +269,6 @@ pub made_good : (text : List ℕ) (d : Draft) → outcome_of text ≡ made d →
 made_good text d e = subst GoodEnd e (outcome_good text)
 
 -- ---- the file of a good draft
-each_low : {A : Type 0} (P : A → Type 0) (f : A → List ℕ) → ((x : A) → P x → Bytes (f x)) → (xs : List A) → All P xs → Bytes (each f xs)
-each_low P f one [] h = none_low
-each_low P f one (x ∷ xs) h = append_low (f x) (each f xs) (one x h.0) (each_low P f one xs h.1)
-
 said_most : (os : List ℕ) → All (λ o. o ≤ most_overhead) os → overhead_said os ≤ most_overhead
 said_most [] h = omega arith
 said_most (o ∷ os) h = h.0
@@ -280,23 +282,6 @@ module _ (d : Draft) (g : Good d) where
 
   pub overhead_most : overhead ≤ most_overhead
   overhead_most = said_most d.overheads g.overheads_in
-
-  flows_low : Bytes (each flow_bytes d.flows)
-  flows_low =
-      each_low InRange flow_bytes (λ x h. flow_low x (omega (arith, h.quantum)) (omega (arith, h.maximum))) d.flows g.flows_in_lem
-
-  events_low : Bytes (each event_bytes d.events)
-  events_low =
-      each_low InFields event_bytes (λ e h. event_low e (omega (arith, h.tick)) (omega (arith, h.flow)) (omega (arith, h.size)))
-      d.events g.events_in_lem
-
-  file_low : Bytes file
-  unfolding file_of
-  file_low =
-      append_low (header_bytes (length d.flows) (length d.events) overhead) (record_bytes d.flows d.events)
-      (header_low (length d.flows) (length d.events) overhead (omega (arith, g.flows_few)) (omega (arith, g.events_few))
-      (omega (arith, overhead_most)))
-      (append_low (each flow_bytes d.flows) (each event_bytes d.events) flows_low events_low)
 
   file_most : length file ≤ most_made
   file_most = omega (arith, file_size overhead d.flows d.events, g.flows_few, g.events_few)
@@ -343,15 +328,6 @@ module _ (text : List ℕ) where
     pub made_no_gaps : FlowsThenEvents (made_bytes text)
     made_no_gaps = rw made_is (no_gaps (overhead_said d.overheads) d.flows d.events)
 
-  -- its bytes, with a fault or without
-  pub made_low : Bytes (made_bytes text)
-  unfolding made_bytes
-  made_low = by (outcome_of text) (outcome_good text)
-    where
-      by : (o : Outcome) → GoodEnd o → Bytes (bytes_in o)
-      by (made d) g = file_low d g.0
-      by (fault i w) g = none_low
-
   pub made_most : length (made_bytes text) ≤ most_made
   unfolding made_bytes
   made_most = by (outcome_of text) (outcome_good text)
@@ -361,20 +337,12 @@ module _ (text : List ℕ) where
       by (fault i w) g = omega arith
 
   -- where the answer is a file of n bytes, there is a draft, and the file has so many
-  module _ (n : ℕ) (e : making_of text ≡ File n) where
-    pub made_from_lem : (d : Draft) × (outcome_of text ≡ made d)
-    unfolding making_of
-    made_from_lem = by (outcome_of text) refl e
-      where
-        by : (o : Outcome) → outcome_of text ≡ o → making_in o ≡ File n → (d : Draft) × (outcome_of text ≡ made d)
-        by (made d) p is = (d, p)
-        by (fault i w) p is = let z : ◌≡◌ {A = ℕ} 0 1 = cc in absurd (omega arith)
-
+  module _ (n : ℕ) (e : making_of text ≡ Ok n) where
     pub made_size : length (made_bytes text) ≡ n
     unfolding made_bytes making_of
     made_size = by (outcome_of text) e
       where
-        by : (o : Outcome) → making_in o ≡ File n → length (bytes_in o) ≡ n
+        by : (o : Outcome) → making_in o ≡ Ok n → length (bytes_in o) ≡ n
         by (made d) is = file_size (overhead_said d.overheads) d.flows d.events ∙ cc
         by (fault i w) is = cc
 

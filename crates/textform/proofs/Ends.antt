@@ -1,168 +1,164 @@
 -- A text line by line to its end: the file of its records, or its first fault.
 use mathlib.Core.Path.{◌≡◌, refl, sym, ap, ◌∙◌}
-use mathlib.Core.Bool.{Bool, true, false, not, cond}
+use mathlib.Core.Bool.{Bool}
 use mathlib.Core.Logic.{⊎_elim}
 use mathlib.Core.List.{List, [], ◌∷◌, ◌++◌, append-nil, append_assoc}
-use Prim.Native.Nat.{ℕ, suc, ◌+◌, ◌*◌, ◌≤◌, ◌<◌}
+use Prim.Native.Nat.{ℕ, ◌+◌, ◌*◌, ◌≤◌, ◌<◌}
 use native.Mathlib.Omega.{arith}
-use native.Mathlib.Numerals.{add-one}
 use borrow.Author.Tests.{lt-ltb, le-ltb, eq-eqb, ne_eqb}
-use lib.Dec.{eqb}
-use lib.ListN.{length, take, drop, replicate, length-replicate}
+use lib.ListN.{length, take, length-replicate}
 use lib.Seq.{sets}
-use Rattle.drr.proofs.Bools.{dec, below?}
+use Rattle.std.specs.Option.{unwrap_or}
+use Rattle.std.specs.Prelude.{Option, Some, None, Ok}
+use Rattle.std.specs.List.{slice_split, onto_first}
+use Rattle.std.specs.Iterator.{AlwaysYields}
+use Rattle.std.proofs.lemmas.List.Sums.{count_by-le-length}
+use Rattle.std.proofs.lemmas.List.Splits.{length-slice_split}
+use Rattle.drr.proofs.Bools.{dec}
+use denote.Ref.{Bor}
+use lib.Dec.{eqb}
 use Rattle.runfile.specs.File.{header_size}
 use Rattle.text.specs.Text.{overlaid}
-use Rattle.textform.specs.declared.Made.{Made}
-use Rattle.textform.specs.declared.Making.TheVariants.{File}
 use Rattle.textform.specs.declared.Want.{Want}
 use Rattle.textform.specs.declared.Want.TheVariants as want
-use Rattle.textform.specs.declared.make.Progress.{Progress}
-use Rattle.textform.specs.declared.make.Sort.TheVariants.{Inline}
+use Rattle.textform.specs.declared.progress.Progress.{Progress}
 use Rattle.textform.specs.Grammar.{lines_from, lines_of, item_of}
-use Rattle.textform.specs.Made.{Draft, no_records, overhead_said, Step, goes, stops, judged, Outcome, made, fault, and_then, drafted}
-use Rattle.textform.specs.Made.{header_bytes, record_bytes, file_of, most_text, newlines, outcome_of, most_made, made_in, made_of}
-use Rattle.textform.specs.Needs.{leading, Counted, Fits, Holds, Gone, Finished}
+use Rattle.textform.specs.Made.{Draft, no_records, overhead_said, Step, goes, stops, judged_line, made, fault, and_then, drafted}
+use Rattle.textform.specs.Made.{header_bytes, file_of, most_text, newlines, outcome_of, most_made, made_in, made_of}
+use Rattle.textform.specs.Needs.{zeros, said, Holds, Gone, Finished}
 use Rattle.textform.proofs.Puts.{put_file}
 
-abbrev pub zeros : List ℕ
-zeros = replicate most_made 0
+-- ---- the records of a text, with their header
+overhead_is : (os : List ℕ) → unwrap_or (said os) 0 ≡ overhead_said os
+overhead_is [] = refl
+overhead_is (o ∷ os) = refl
 
--- ---- the end of a text
-ends_none : (line : ℕ) (d : Draft) → length d.flows ≡ 0 → fault line want.FlowsFirst ≡ drafted line d []
-ends_none line d e = sym (rw (eq-eqb (length d.flows) 0 e))
-
-ends_made : (line : ℕ) (d : Draft) → (length d.flows ≡ 0 → ⊥) → made d ≡ drafted line d []
-ends_made line d e = sym (rw (ne_eqb (length d.flows) 0 e))
-
-pub no_flow : (c : Progress) (line : ℕ) (b : List ℕ) (r : Made) → c.flows ≡ 0 → r ≡ made_in (fault line want.FlowsFirst) →
-    Finished c line b r
-no_flow c line b r e is d k held = is ∙ ap made_in (ends_none line d (omega (arith, e, k.flows_are)))
-
-pub whole : (c : Progress) (line : ℕ) (b b' : List ℕ) → Fits c b → (c.flows ≡ 0 → ⊥) →
-    b' ≡ sets b 0 (header_bytes c.flows c.events c.overhead) →
-    Finished c line b (record { answer = File (header_size + 8 * c.flows + 8 * c.events); file = b' })
-whole c line b b' fits some is d k held =
+pub whole : (c : Progress) (o : ℕ) (b : List ℕ) → o ≡ unwrap_or c.overhead 0 → b ≡ sets c.file 0 (header_bytes c.flows c.events o) →
+    Finished c (record { answer = Ok (header_size + 8 * c.flows + 8 * c.events); file = b })
+whole c o b e is d k =
     let none : ℕ = 0 in
-    let n : ℕ = length d.flows in
-    let m : ℕ = length d.events in
-    let size : header_size + 8 * c.flows + 8 * c.events ≡ header_size + 8 * n + 8 * m = omega (arith, k.flows_are, k.events_are) in
-    let room : header_size + 8 * n + 8 * m ≤ length zeros =
-    omega (arith, k.flows_are, k.events_are, fits.flows_fit, fits.events_fit, length-replicate most_made none) in
-    let y : List ℕ = sets zeros header_size (record_bytes d.flows d.events) in
-    let o : ℕ = overhead_said d.overheads in
-    let bytes : b' ≡ overlaid (file_of o d.flows d.events) zeros =
-    is
-    ∙ ap (λ (x : List ℕ). sets x 0 (header_bytes c.flows c.events c.overhead)) held
-    ∙ (λ i. sets y 0 (header_bytes (k.flows_are i) (k.events_are i) (k.overhead_is i)))
-    ∙ put_file zeros d.flows o d.events room in
-    ap (λ (i : ℕ). record { answer = File i; file = b' }) size
-    ∙ ap (λ (x : List ℕ). record { answer = File (header_size + 8 * n + 8 * m); file = x }) bytes
-    ∙ ap made_in (ends_made line d (λ e. some (omega (arith, e, k.flows_are))))
+    let room : header_size + 8 * length d.flows + 8 * length d.events ≤ length zeros =
+    omega (arith, k.flows_are, k.events_are, c.flows_fit, c.events_fit, length-replicate most_made none) in
+    let overhead : o ≡ overhead_said d.overheads = e ∙ ap (λ (x : Option ℕ). unwrap_or x 0) k.overhead_is ∙ overhead_is d.overheads in
+    let bytes : b ≡ overlaid (file_of (overhead_said d.overheads) d.flows d.events) zeros =
+    is ∙ (λ i. sets (k.file_is i) 0 (header_bytes (k.flows_are i) (k.events_are i) (overhead i)))
+    ∙ put_file zeros d.flows (overhead_said d.overheads) d.events room in
+    (λ i. record { answer = Ok (header_size + 8 * k.flows_are i + 8 * k.events_are i); file = bytes i })
 
--- ---- the lines of a text, found by a scan
-abbrev Lines : Type 0
-Lines = List (List ℕ)
+-- ---- the lines of a text, as they are split
+abbrev newline : ℕ → Bool
+newline b = eqb b 10
 
-line_then_more : (w r : List ℕ) → leading Inline r < length r →
-    lines_from w r ≡ (w ++ take (leading Inline r) r) ∷ lines_of (drop (suc (leading Inline r)) r)
-line_then_more w [] h = absurd (omega arith)
-line_then_more w (x ∷ xs) h =
+-- a text before the first line
+abbrev before : List ℕ → List (List ℕ) → List (List ℕ)
+before w [] = w ∷ []
+before w (l ∷ ls) = (w ++ l) ∷ ls
+
+nothing_before : (t : List ℕ) → before [] (slice_split newline t) ≡ slice_split newline t
+nothing_before [] = refl
+nothing_before (x ∷ xs) = ⊎_elim (λ e. rw e refl) (λ e. rw e (by (slice_split newline xs))) (dec (eqb x 10))
+  where
+    by : (ls : List (List ℕ)) → before [] (onto_first x ls) ≡ onto_first x ls
+    by [] = refl
+    by (l ∷ ls) = refl
+
+lines_before : (w t : List ℕ) → lines_from w t ≡ before w (slice_split newline t)
+lines_before w [] = ap (λ (l : List ℕ). l ∷ []) (sym (append-nil w))
+lines_before w (x ∷ xs) =
     ⊎_elim
-    (λ e. rw e (ap (λ (v : List ℕ). v ∷ lines_of xs) (sym (append-nil w))))
-    (λ e. rw e (line_then_more (w ++ x ∷ []) xs (below e)
-    ∙ ap (λ (v : List ℕ). v ∷ lines_of (drop (suc (leading Inline xs)) xs)) (append_assoc w (x ∷ []) (take (leading Inline xs) xs))))
+    (λ e. rw e (ap (λ (ls : List (List ℕ)). w ∷ ls) (lines_before [] xs ∙ nothing_before xs)
+    ∙ ap (λ (l : List ℕ). l ∷ slice_split newline xs) (sym (append-nil w))))
+    (λ e. rw e (lines_before (w ++ x ∷ []) xs ∙ by (slice_split newline xs)))
     (dec (eqb x 10))
   where
-    below : eqb x 10 ≡ false → leading Inline xs < length xs
-    below e =
-        let is : leading Inline (x ∷ xs) ≡ suc (leading Inline xs) = ap (λ (t : Bool). cond (not t) (suc (leading Inline xs)) 0) e in
-        omega (arith, is, h)
+    by : (ls : List (List ℕ)) → before (w ++ x ∷ []) ls ≡ before w (onto_first x ls)
+    by [] = refl
+    by (l ∷ ls) = ap (λ (v : List ℕ). v ∷ ls) (append_assoc w (x ∷ []) l)
 
-last_line : (w r : List ℕ) → length r ≤ leading Inline r → lines_from w r ≡ (w ++ take (leading Inline r) r) ∷ []
-last_line w [] h = ap (λ (v : List ℕ). v ∷ []) (sym (append-nil w))
-last_line w (x ∷ xs) h =
-    ⊎_elim
-    (λ e. absurd (omega (arith, none e, h)))
-    (λ e. rw e (last_line (w ++ x ∷ []) xs (omega (arith, one e, h))
-    ∙ ap (λ (v : List ℕ). v ∷ []) (append_assoc w (x ∷ []) (take (leading Inline xs) xs))))
-    (dec (eqb x 10))
-  where
-    none : eqb x 10 ≡ true → leading Inline (x ∷ xs) ≡ 0
-    none e = ap (λ (t : Bool). cond (not t) (suc (leading Inline xs)) 0) e
+lines_split : (text : List ℕ) → lines_of text ≡ slice_split newline text
+lines_split text = lines_before [] text ∙ nothing_before text
 
-    one : eqb x 10 ≡ false → leading Inline (x ∷ xs) ≡ suc (leading Inline xs)
-    one e = ap (λ (t : Bool). cond (not t) (suc (leading Inline xs)) 0) e
+-- no more than its bytes and one
+lines_few : (t : List ℕ) → length (slice_split newline t) ≤ length t + 1
+lines_few t = omega (arith, length-slice_split newline t, count_by-le-length newline t)
 
--- the first line of a text, and those behind it
-pub record First (r : List ℕ) (n : ℕ) (more : Lines) : Type 0 where
-  pub first_is : lines_of r ≡ take n r ∷ more
+-- ---- line by line: what the iterator still gives
+abbrev Steps : Type 0 → Type 1
+Steps S = S → Option (Bor (List ℕ)) → S → Type 0
 
-pub more_lines : (r : List ℕ) (n : ℕ) → n ≡ leading Inline r → n < length r → First r n (lines_of (drop (n + 1) r))
-more_lines r n e h = record {
-  first_is = line_then_more [] r (omega (arith, e, h))
-      ∙ ap (λ (k : ℕ). take k r ∷ lines_of (drop (suc k) r)) (sym e)
-      ∙ ap (λ (k : ℕ). take n r ∷ lines_of (drop k r)) (sym (add-one n));
+pub record Going {S : Type 0} (steps : Steps S) (s : S) (text : List ℕ) (line : ℕ) (c : Progress) : Type 0 where
+  pub so_far : Draft
+  pub left : List (List ℕ)
+  pub gives : AlwaysYields steps (λ x. x.now) s left
+  pub held : Holds c so_far
+  pub on : drafted line so_far left ≡ drafted 0 no_records (lines_of text)
+  pub short : line + length left ≤ length text + 1
+
+pub start : {S : Type 0} (steps : Steps S) (s : S) (text : List ℕ) (c : Progress) → AlwaysYields steps (λ x. x.now) s (slice_split newline text) →
+    Holds c no_records → Going steps s text 0 c
+start steps s text c gives held = record {
+  so_far = no_records;
+  left = slice_split newline text;
+  gives = gives;
+  held = held;
+  on = ap (drafted 0 no_records) (sym (lines_split text));
+  short = omega (arith, lines_few text);
 }
 
-pub no_more_lines : (r : List ℕ) (n : ℕ) → n ≡ leading Inline r → length r ≤ n → First r n []
-no_more_lines r n e h = record { first_is = last_line [] r (omega (arith, e, h)) ∙ ap (λ (k : ℕ). take k r ∷ []) (sym e) }
+-- the next line, and those behind it
+pub record Next {S : Type 0} (steps : Steps S) (left : List (List ℕ)) (x : List ℕ) (t : S) : Type 0 where
+  pub more : List (List ℕ)
+  pub left_is : left ≡ x ∷ more
+  pub gives_more : AlwaysYields steps (λ x. x.now) t more
 
--- ---- a line of a text
-pub record Going (text rest : List ℕ) (line : ℕ) (c : Progress) (b : List ℕ) : Type 0 where
-  pub so_far : Draft
-  pub counted : Counted c so_far
-  pub held : Holds zeros so_far b
-  pub fits : Fits c b
-  pub on : drafted line so_far (lines_of rest) ≡ drafted 0 no_records (lines_of text)
-  pub short : line + length rest ≤ length text
+module _ {S : Type 0} {steps : Steps S} {s : S} {text : List ℕ} {line : ℕ} {c : Progress} (p : Going steps s text line c) where
+  module _ (x : Bor (List ℕ)) (t : S) (step : steps s (Some x) t) where
+    next : Next steps p.left x.now t
+    next = by p.left p.gives
+      where
+        by : (ls : List (List ℕ)) → AlwaysYields steps (λ x. x.now) s ls → Next steps ls x.now t
+        by [] g = absurd (g x t step)
+        by (l ∷ ls) g = let h = g.1 x t step in record { more = ls; left_is = ap (λ (k : List ℕ). k ∷ ls) (sym h.0); gives_more = h.1 }
 
-module _ {text rest : List ℕ} {line : ℕ} {c : Progress} {b : List ℕ} (p : Going text rest line c b) (n : ℕ) where
-  abbrev all : Outcome
-  all = drafted 0 no_records (lines_of text)
+    abbrev judge : Step
+    judge = judged_line p.so_far (item_of x.now)
 
-  abbrev step : Step
-  step = judged p.so_far (item_of (take n rest))
+    first_line_lem : (r : Step) → judge ≡ r →
+        and_then r (λ d. drafted (line + 1) d next.more) (λ w. fault (line + 1) w) ≡ drafted 0 no_records (lines_of text)
+    first_line_lem r e =
+        ap (λ (k : Step). and_then k (λ d. drafted (line + 1) d next.more) (λ w. fault (line + 1) w)) (sym e)
+        ∙ ap (drafted line p.so_far) (sym next.left_is)
+        ∙ p.on
 
-  first_line_lem : {more : Lines} → First rest n more → (s : Step) → step ≡ s →
-      and_then s (λ next. drafted (line + 1) next more) (λ w. fault (line + 1) w) ≡ all
-  first_line_lem {more} f s e =
-      ap (λ (t : Step). and_then t (λ next. drafted (line + 1) next more) (λ w. fault (line + 1) w)) (sym e)
-      ∙ ap (drafted line p.so_far) (sym f.first_is)
-      ∙ p.on
+    pub stopped : (w : Want) → judge ≡ stops w → drafted 0 no_records (lines_of text) ≡ fault (line + 1) w
+    stopped w e = sym (first_line_lem (stops w) e)
 
-  pub stopped : n ≡ leading Inline rest → (w : Want) → step ≡ stops w → made_in (fault (line + 1) w) ≡ made_in all
-  stopped is w e =
-      ap made_in (⊎_elim
-      (λ h. first_line_lem (more_lines rest n is h) (stops w) e)
-      (λ h. first_line_lem (no_more_lines rest n is h) (stops w) e)
-      (below? n (length rest)))
-
-  module _ {c' : Progress} {b' : List ℕ} (g : Gone zeros c' b' step) where
-    pub ended : First rest n [] → (r : Made) → Finished c' (line + 1) b' r → r ≡ made_in all
-    ended f r h = h g.next g.next_counted g.next_held ∙ ap made_in (first_line_lem f (goes g.next) g.goes_to)
-
-    pub goes_on : (later : List ℕ) → First rest n (lines_of later) → length later + 1 ≤ length rest → Going text later (line + 1) c' b'
-    goes_on later f h = record {
+    pub goes_on : (c' : Progress) → Gone c' judge → Going steps t text (line + 1) c'
+    goes_on c' g = record {
       so_far = g.next;
-      counted = g.next_counted;
+      left = next.more;
+      gives = next.gives_more;
       held = g.next_held;
-      fits = g.next_fits;
-      on = first_line_lem f (goes g.next) g.goes_to;
-      short = omega (arith, h, p.short);
+      on = first_line_lem (goes g.next) g.goes_to;
+      short = omega (arith, p.short, ap length next.left_is);
     }
 
-pub start : (text : List ℕ) → Going text text 0 (record { overhead = 0; overheads = 0; flows = 0; events = 0; last = 0 }) zeros
-start text =
-    let none : ℕ = 0 in
-    record {
-      so_far = no_records;
-      counted = record { overhead_is = refl; overheads_are = refl; flows_are = refl; events_are = refl; last_is = refl };
-      held = refl;
-      fits = record { flows_fit = omega arith; events_fit = omega arith; room = length-replicate most_made none };
-      on = refl;
-      short = omega arith;
-    }
+  module _ (t : S) (step : steps s None t) where
+    none_left : p.left ≡ []
+    none_left = by p.left p.gives
+      where
+        by : (ls : List (List ℕ)) → AlwaysYields steps (λ x. x.now) s ls → ls ≡ []
+        by [] g = refl
+        by (l ∷ ls) g = absurd (g.0 t step)
+
+    all_is : drafted 0 no_records (lines_of text) ≡ drafted line p.so_far []
+    all_is = sym p.on ∙ ap (drafted line p.so_far) none_left
+
+    pub no_flow : c.flows ≡ 0 → drafted 0 no_records (lines_of text) ≡ fault line want.FlowsFirst
+    no_flow e = all_is ∙ rw (eq-eqb (length p.so_far.flows) 0 (omega (arith, e, p.held.flows_are)))
+
+    pub some_flow : (c.flows ≡ 0 → ⊥) → drafted 0 no_records (lines_of text) ≡ made p.so_far
+    some_flow h = all_is ∙ rw (ne_eqb (length p.so_far.flows) 0 (λ e. h (omega (arith, e, p.held.flows_are))))
 
 -- ---- how long the text is
 pub too_long : (text : List ℕ) (n : ℕ) → most_text < length text → n ≡ newlines (take most_text text) →

@@ -1,7 +1,5 @@
 -- Laws that several functions' proofs cite, and what holds of the two programs.
 pub mod Scans
-pub mod Fields
-pub mod Items
 pub mod Bytes
 pub mod Puts
 pub mod Steps

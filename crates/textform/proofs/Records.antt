@@ -2,20 +2,27 @@
 use mathlib.Core.Path.{◌≡◌, refl, sym, ap, subst, ◌∙◌}
 use mathlib.Core.List.{List, [], ◌∷◌, ◌++◌}
 use Prim.Native.Nat.{ℕ, zero, suc, ◌+◌, ◌*◌, ◌-◌, ◌/◌, ◌≤◌, ◌<◌}
-use native.Mathlib.Nat.{zero-add}
+use native.Mathlib.Numerals.{add-one}
 use native.Mathlib.Omega.{arith}
 use borrow.Author.Tests.{le-ltb}
-use lib.ListN.{length, take, drop, length-append, length-drop}
-use lib.Seq.{sets, sets-eq, length-sets}
+use lib.ListN.{length, get_or, take, drop, length-append, length-drop, get_or-append}
+use lib.Seq.{sets-eq, length-sets, drop_at, length-take-le}
+use Rattle.std.proofs.Common.{take-append-drop}
 use Rattle.drr.specs.declared.FlowRecord.{FlowRecord}
-use Rattle.runfile.specs.File.{Event}
+use Rattle.runfile.specs.File.{Event, le2, le4, event_at, events_from}
 use Rattle.text.specs.Text.{numbers_text, numbers_within, Put}
-use Rattle.text.proofs.Texts.{Left, left_all, left_next, left_end, Filled, filled}
+use Rattle.std.specs.Prelude.{Option, Some, None}
+use Rattle.std.specs.Iterator.{AlwaysYields}
+use Rattle.std.specs.List.{zip}
+use Rattle.std.specs.Slice.Iter.{chunks_exact_rest, chunks_exact_size, chunks_exact_steps}
+use Rattle.std.specs.declared.slice.ChunksExact.{ChunksExact}
+use Rattle.text.proofs.Texts.{Left, left_all, left_next, left_end, put_none, Filled, filled}
 use Rattle.text.proofs.Lines.{to_end, numbers_most}
 use Rattle.answers.proofs.Given.{as_text}
 use Rattle.answers.proofs.FlowLines.{part_put}
 use Rattle.textform.specs.Made.{each}
-use Rattle.textform.specs.Shown.{flow_text, event_text, flow_line_room, event_line_room}
+use Rattle.textform.specs.Shown.{flow_text, event_text, records_from, flow_line_room, event_line_room}
+use Rattle.textform.proofs.Bytes.{le2_drop, le4_drop}
 
 -- ---- a text put at the start of a buffer, and another in the part behind it
 -- the part of a buffer from r on, as the code lends it, and the buffer with that part as it is given back
@@ -45,75 +52,89 @@ module _
   pub both_filled : Filled (u ++ v) b (joined begun r part) (r + size)
   both_filled = filled 0 0 (u ++ v) b (joined begun r part) (r + size) (omega arith) whole_fits put
 
-  pub both_length : length (joined begun r part) ≡ length b
-  both_length = ap length put.0 ∙ length-sets b 0 (u ++ v)
-
-  pub both_short : r + size ≤ length b
-  both_short = omega (arith, put.1, whole_fits)
-
 -- a text that stands at the start of a buffer was put there
 pub as_put : (u b begun : List ℕ) (r : ℕ) → length u ≤ length b → Filled u b begun r → Put b 0 u begun r
 as_put u b begun r room p =
     let e : 0 + length u ≡ length u = omega arith in
     (p.1 ∙ ap (λ (i : ℕ). u ++ drop i b) (sym e) ∙ sym (sets-eq u b 0 (omega arith)), p.0 ∙ sym e)
 
--- ---- a line: its first bytes, and then numbers
+-- ---- a line: its word, and then numbers
 module _
-    (head list b part : List ℕ) (k size : ℕ) (is : k ≡ length head) (room : k + 21 * length list ≤ length b)
-    (second : Filled (numbers_within list (length (behind (sets b 0 head) k))) (behind (sets b 0 head) k) part size) where
-  abbrev rest : List ℕ
-  rest = behind (sets b 0 head) k
+    (word list b begun part : List ℕ) (size : ℕ) (room : length word + 21 * length list ≤ length b)
+    (is : begun ≡ word ++ drop (length word) b)
+    (second : Filled (numbers_within list (length (behind begun (length word)))) (behind begun (length word)) part size) where
+  begins : Put b 0 word begun (length word)
+  begins = as_put word b begun (length word) (omega (arith, room)) (refl, is)
 
-  numbers_fit : numbers_within list (length rest) ≡ numbers_text list
+  numbers_fit : numbers_within list (length (behind begun (length word))) ≡ numbers_text list
   unfolding numbers_within
   numbers_fit =
-      let enough : length list ≤ length rest / 21 = omega (arith, behind_length (sets b 0 head) k, length-sets b 0 head) in
-      rw (le-ltb (length rest / 21) (length list) enough)
+      let rest = length (behind begun (length word)) in
+      let same : length begun ≡ length b = ap length begins.0 ∙ length-sets b 0 word in
+      let enough : length list ≤ rest / 21 = omega (arith, behind_length begun (length word), same, room) in
+      rw (le-ltb (rest / 21) (length list) enough)
 
-  numbers : Filled (numbers_text list) rest part size
-  numbers = as_text _ _ rest part size numbers_fit second
+  pub line_filled : Filled (word ++ numbers_text list) b (joined begun (length word) part) (length word + size)
+  line_filled =
+      both_filled word (numbers_text list) b begun part (length word) size (omega (arith, numbers_most list, room)) begins
+      (as_text _ _ (behind begun (length word)) part size numbers_fit second)
 
-  begins : Put b 0 head (sets b 0 head) k
-  begins = (refl, is ∙ sym (zero-add (length head)))
+-- ---- line after line, of what an iterator gives, none of them longer than `most`
+pub record Printing {S A B : Type 0}
+    (steps : S → Option A → S → Type 0) (v : A → B) (line : B → List ℕ) (most : ℕ) (s : S) (b whole b' : List ℕ) (at : ℕ) : Type 0 where
+  pub left : List B
+  pub gives : AlwaysYields steps v s left
+  pub to_put : Left b 0 whole b' at (each line left)
+  pub room : at + most * length left ≤ length b'
 
-  fits : length head + length (numbers_text list) ≤ length b
-  fits = omega (arith, numbers_most list)
+each_most : {B : Type 0} (line : B → List ℕ) (most : ℕ) → ((y : B) → length (line y) ≤ most) → (ys : List B) →
+    length (each line ys) ≤ most * length ys
+each_most line most short [] = omega arith
+each_most line most short (y ∷ ys) = omega (arith, length-append (line y) (each line ys), short y, each_most line most short ys)
 
-  pub line_filled : Filled (head ++ numbers_text list) b (joined (sets b 0 head) k part) (k + size)
-  line_filled = both_filled head (numbers_text list) b (sets b 0 head) part k size fits begins numbers
+module _ {S A B : Type 0} {steps : S → Option A → S → Type 0} {v : A → B} {line : B → List ℕ} {most : ℕ}
+    (short : (y : B) → length (line y) ≤ most) where
+  pub none_put : (s : S) (ys : List B) (b whole : List ℕ) → AlwaysYields steps v s ys → whole ≡ each line ys → most * length ys ≤ length b →
+      Printing steps v line most s b whole b 0
+  none_put s ys b whole gives is room = record {
+    left = ys;
+    gives = gives;
+    to_put = subst (λ (w : List ℕ). Left b 0 w b 0 (each line ys)) (sym is) (left_all b 0 (each line ys) (omega (arith, each_most line most short ys, room)));
+    room = omega arith;
+  }
 
-  pub line_length : length (joined (sets b 0 head) k part) ≡ length b
-  line_length = both_length head (numbers_text list) b (sets b 0 head) part k size fits begins numbers
+  module _ {s : S} {b whole b' : List ℕ} {at : ℕ} (p : Printing steps v line most s b whole b' at) where
+    -- the next line, and those behind it
+    module _ (x : A) (t : S) (step : steps s (Some x) t) where
+      next : (more : List B) × (p.left ≡ v x ∷ more) × AlwaysYields steps v t more
+      next = by p.left p.gives
+        where
+          by : (ys : List B) → AlwaysYields steps v s ys → (more : List B) × (ys ≡ v x ∷ more) × AlwaysYields steps v t more
+          by [] g = absurd (g x t step)
+          by (y ∷ ys) g = let h = g.1 x t step in (ys, ap (λ (k : B). k ∷ ys) (sym h.0), h.1)
 
-  pub line_short : k + size ≤ length b
-  line_short = both_short head (numbers_text list) b (sets b 0 head) part k size fits begins numbers
+      pub line_room : at + most ≤ length b'
+      line_room = omega (arith, p.room, ap (λ (ys : List B). most * length ys) next.1)
 
--- ---- line after line: k lines from number i on, none of them longer than `most`
-module _
-    (line : ℕ → List ℕ) (lines : ℕ → ℕ → List ℕ)
-    (none : (i : ℕ) → lines i 0 ≡ []) (one : (i k : ℕ) → lines i (suc k) ≡ line i ++ lines (i + 1) k)
-    (most : ℕ) (short : (i : ℕ) → length (line i) ≤ most) where
-  pub lines_most : (i k : ℕ) → length (lines i k) ≤ most * k
-  lines_most i zero = omega (arith, ap length (none i))
-  lines_most i (suc k) =
-      omega (arith, ap length (one i k), length-append (line i) (lines (i + 1) k), short i, lines_most (i + 1) k)
+      pub line_put : (part : List ℕ) (size : ℕ) → Filled (line (v x)) (behind b' at) part size →
+          Printing steps v line most t b whole (joined b' at part) (at + size)
+      line_put part size filled =
+          let put = part_put b' at (line (v x)) part size (omega (arith, line_room, short (v x))) filled in
+          let same : length (joined b' at part) ≡ length b' = ap length put.0 ∙ length-sets b' at (line (v x)) in
+          record {
+            left = next.0;
+            gives = next.2;
+            to_put = left_next p.to_put (line (v x)) (each line next.0) (ap (each line) next.1) _ _ put same;
+            room = omega (arith, p.room, ap (λ (ys : List B). most * length ys) next.1, same, put.1, short (v x));
+          }
 
-  -- what is left to print before the first of n lines, before another, and after the last
-  pub lines_first : (n : ℕ) (b : List ℕ) → most * n ≤ length b → Left b 0 (lines 0 n) b 0 (lines 0 (n - 0))
-  lines_first n b room =
-      let all : n ≡ n - 0 = omega arith in
-      subst (λ (k : ℕ). Left b 0 (lines 0 n) b 0 (lines 0 k)) all (left_all b 0 (lines 0 n) (omega (arith, lines_most 0 n)))
-
-  pub lines_next : (n i : ℕ) → i < n → lines i (n - i) ≡ line i ++ lines (i + 1) (n - (i + 1))
-  lines_next n i h =
-      let j : ℕ = n - (i + 1) in
-      let e : n - i ≡ suc j = omega arith in
-      ap (lines i) e ∙ one i j
-
-  pub lines_last : (n i : ℕ) → n ≤ i → lines i (n - i) ≡ []
-  lines_last n i h =
-      let e : n - i ≡ 0 = omega arith in
-      ap (lines i) e ∙ none i
+    pub all_put : (t : S) → steps s None t → Filled whole b b' at
+    all_put t step =
+        filled 0 0 whole b b' at (omega arith) (omega (arith, p.to_put.fits)) (left_end p.to_put [] (by p.left p.gives) b' at (put_none b' at))
+      where
+        by : (ys : List B) → AlwaysYields steps v s ys → each line ys ≡ []
+        by [] g = refl
+        by (y ∷ ys) g = absurd (g.0 t step)
 
 -- a record's line takes no more than its room
 pub flow_most : (r : FlowRecord) → length (flow_text r) ≤ flow_line_room
@@ -123,9 +144,87 @@ pub event_most : (e : Event) → length (event_text e) ≤ event_line_room
 event_most e = omega (arith, numbers_most (e.tick ∷ e.flow ∷ e.length ∷ []))
 
 pub flows_most : (xs : List FlowRecord) → length (each flow_text xs) ≤ flow_line_room * length xs
-flows_most [] = omega arith
-flows_most (x ∷ xs) = omega (arith, length-append (flow_text x) (each flow_text xs), flow_most x, flows_most xs)
+flows_most xs = each_most flow_text flow_line_room flow_most xs
 
 pub events_most : (es : List Event) → length (each event_text es) ≤ event_line_room * length es
-events_most [] = omega arith
-events_most (e ∷ es) = omega (arith, length-append (event_text e) (each event_text es), event_most e, events_most es)
+events_most es = each_most event_text event_line_room event_most es
+
+-- ---- the flows of a table, as its quanta and maxima are gone over side by side
+abbrev pub flow_of_pair : ℕ × ℕ → FlowRecord
+flow_of_pair p = record { quantum = p.0; maximum = p.1 }
+
+records_later : (x y : ℕ) (quanta maxima : List ℕ) (f k : ℕ) →
+    records_from (x ∷ quanta) (y ∷ maxima) (f + 1) k ≡ records_from quanta maxima f k
+records_later x y quanta maxima f zero = refl
+records_later x y quanta maxima f (suc k) =
+    (λ i. record { quantum = get_or (x ∷ quanta) (add-one f i) 0; maximum = get_or (y ∷ maxima) (add-one f i) 0 }
+    ∷ records_later x y quanta maxima (f + 1) k i)
+
+pub flows_zipped : (quanta maxima : List ℕ) (k : ℕ) → k ≤ length quanta → k ≤ length maxima →
+    each flow_text (records_from quanta maxima 0 k) ≡ each (λ p. flow_text (flow_of_pair p)) (take k (zip quanta maxima))
+flows_zipped quanta maxima zero n m = refl
+flows_zipped [] maxima (suc k) n m = absurd (omega arith)
+flows_zipped (x ∷ quanta) [] (suc k) n m = absurd (omega arith)
+flows_zipped (x ∷ quanta) (y ∷ maxima) (suc k) n m =
+    ap (λ (l : List ℕ). flow_text (record { quantum = x; maximum = y }) ++ l)
+    (ap (each flow_text) (records_later x y quanta maxima 0 k) ∙ flows_zipped quanta maxima k (omega arith) (omega arith))
+
+-- ---- the events of a part, as it is gone over eight bytes at a time
+module _ (x r : List ℕ) where
+  byte : (n : ℕ) → n < length x → get_or x n 0 ≡ get_or (x ++ r) n 0
+  byte n h = sym (get_or-append x r 0 n h)
+
+  two : (n : ℕ) → n + 1 < length x → le2 x n ≡ le2 (x ++ r) n
+  two n h = let e0 = byte n (omega arith) in let e1 = byte (n + 1) h in (λ i. e0 i + 256 * e1 i)
+
+  event_front : (i : ℕ) → 8 * i + 8 ≤ length x → event_at x i ≡ event_at (x ++ r) i
+  event_front i h =
+      let low = two (8 * i) (omega arith) in
+      let high = two (8 * i + 2) (omega arith) in
+      let flow = two (8 * i + 4) (omega arith) in
+      let size = two (8 * i + 6) (omega arith) in
+      (λ j. record { tick = low j + 65536 * high j; flow = flow j; length = size j })
+
+  events_front : (i k : ℕ) → 8 * (i + k) ≤ length x → events_from x i k ≡ events_from (x ++ r) i k
+  events_front i zero h = refl
+  events_front i (suc k) h =
+      let first = event_front i (omega arith) in
+      let more = events_front (i + 1) k (omega arith) in
+      (λ j. first j ∷ more j)
+
+-- .. of the bytes that are gone over
+pub events_of : (t : List ℕ) (m : ℕ) → 8 * m ≤ length t → events_from t 0 m ≡ events_from (take (8 * m) t) 0 m
+events_of t m h =
+    ap (λ (l : List ℕ). events_from l 0 m) (sym (take-append-drop (8 * m) t))
+    ∙ sym (events_front (take (8 * m) t) (drop (8 * m) t) 0 m (omega (arith, length-take-le (8 * m) t h)))
+
+module _ (x r : List ℕ) (size : length x ≡ 8) where
+  behind_first : drop 8 (x ++ r) ≡ r
+  behind_first = drop_at x r 8 size
+
+  events_later : (i k : ℕ) → events_from (x ++ r) (i + 1) k ≡ events_from r i k
+  events_later i zero = refl
+  events_later i (suc k) =
+      let e : 8 * (i + 1) ≡ 8 + 8 * i = omega arith in
+      let t = ap (λ (n : ℕ). le4 (x ++ r) n) e ∙ sym (le4_drop (x ++ r) 8 (8 * i)) ∙ ap (λ (l : List ℕ). le4 l (8 * i)) behind_first in
+      let at : (j : ℕ) → le2 (x ++ r) (8 * (i + 1) + j) ≡ le2 r (8 * i + j) =
+      λ j. let n : 8 * (i + 1) + j ≡ 8 + (8 * i + j) = omega arith in
+      ap (λ (n : ℕ). le2 (x ++ r) n) n ∙ sym (le2_drop (x ++ r) 8 (8 * i + j)) ∙ ap (λ (l : List ℕ). le2 l (8 * i + j)) behind_first in
+      (λ j. record { tick = t j; flow = at 4 j; length = at 6 j } ∷ events_later (i + 1) k j)
+
+pub events_given : (s : ChunksExact ℕ) (k : ℕ) → chunks_exact_size s ≡ 8 → length (chunks_exact_rest s) ≡ 8 * k →
+    AlwaysYields chunks_exact_steps (λ x. event_at x.now 0) s (events_from (chunks_exact_rest s) 0 k)
+events_given s zero size long = λ x t step. absurd (omega (arith, ap length step.1.0, length-append x.now (chunks_exact_rest t), step.1.1, size, long))
+events_given s (suc k) size long = (
+  λ t step. absurd (omega (arith, step.1.0, size, long)),
+  λ x t step.
+      let eight : length x.now ≡ 8 = step.1.1 ∙ size in
+      let is = step.1.0 in
+      let rest = chunks_exact_rest t in
+      let less : length rest ≡ 8 * k = omega (arith, ap length is, length-append x.now rest, eight, long) in (
+        event_front x.now rest 0 (omega (arith, eight)) ∙ ap (λ (l : List ℕ). event_at l 0) (sym is),
+        subst (λ (es : List Event). AlwaysYields chunks_exact_steps (λ x. event_at x.now 0) t es)
+            (sym (events_later x.now rest eight 0 k) ∙ ap (λ (l : List ℕ). events_from l 1 k) (sym is))
+            (events_given t k (step.0 ∙ size) less),
+      ),
+)

@@ -24,8 +24,10 @@ use Rattle.text.specs.Text.{around}
 use Rattle.answers.specs.Printed.{overhead_text}
 use Rattle.answers.proofs.Overhead as answers
 use Rattle.textform.specs.declared.Item.{Item}
+use Rattle.std.specs.Prelude.{Result, Ok}
+use Rattle.textform.specs.declared.Want.{Want}
 use Rattle.textform.specs.Grammar.{lines_of, item_of}
-use Rattle.textform.specs.Made.{Draft, draft, no_records, overhead_said, judged, made, fault, and_then, drafted, outcome_of, most_text}
+use Rattle.textform.specs.Made.{Draft, draft, no_records, overhead_said, judged, judged_line, made, fault, and_then, drafted, outcome_of, most_text}
 use Rattle.textform.specs.Made.{each, file_of, bytes_in, made_bytes}
 use Rattle.textform.specs.Shown.{flow_text, event_text, text_of, shown_text, overheads_shown, plainly, Bytes, FlowsThenEvents}
 use Rattle.textform.proofs.Bytes.{drop_low}
@@ -37,9 +39,9 @@ use Rattle.textform.proofs.Again.{overhead_line, flow_line, event_line, overhead
 use Rattle.textform.proofs.Again.{overhead_item_lem, flow_item_lem, event_item_lem}
 
 -- ---- a line by what it says
-line_by : (i : ℕ) (d : Draft) (line : List ℕ) (ls : List (List ℕ)) (item : Item) → item_of line ≡ item →
+line_by : (i : ℕ) (d : Draft) (line : List ℕ) (ls : List (List ℕ)) (item : Item) → item_of line ≡ Ok item →
     drafted i d (line ∷ ls) ≡ and_then (judged d item) (λ next. drafted (i + 1) next ls) (λ w. fault (i + 1) w)
-line_by i d line ls item e = ap (λ (x : Item). and_then (judged d x) (λ next. drafted (i + 1) next ls) (λ w. fault (i + 1) w)) e
+line_by i d line ls item e = ap (λ (x : Result Item Want). and_then (judged_line d x) (λ next. drafted (i + 1) next ls) (λ w. fault (i + 1) w)) e
 
 -- the overhead, one flow more, and one event
 overhead_step : (i o : ℕ) (ls : List (List ℕ)) → o ≤ most_overhead →

@@ -1,167 +1,117 @@
 -- A record more: the draft after it, and the file that holds it.
 use mathlib.Core.Path.{◌≡◌, refl, sym, ap, ◌∙◌}
 use mathlib.Core.List.{List, [], ◌∷◌, ◌++◌}
-use Prim.Native.Nat.{ℕ, ◌+◌, ◌*◌, ◌≤◌, ◌<◌}
+use Prim.Native.Nat.{ℕ, ◌+◌, ◌*◌, ◌/◌, ◌%◌, ◌≤◌, ◌<◌}
 use native.Mathlib.Omega.{arith}
-use native.Mathlib.Nat.{zero-add}
-use borrow.Author.Tests.{le-ltb, lt-ltb, le-leb, lt-leb, eq-eqb, ne_eqb}
+use borrow.Author.Tests.{le-ltb, lt-leb, ne_eqb}
 use lib.ListN.{length, length-append}
-use lib.Seq.{sets, length-sets}
+use lib.Seq.{sets}
+use mir.Syntax.{w16, w32}
+use Rattle.std.specs.Prelude.{Option, Some}
+use Rattle.std.specs.Option.{is_some}
+use Rattle.std.specs.Int.{to_le_bytes}
+use mathlib.Core.Bool.{false, true≢false}
 use Rattle.drr.specs.declared.FlowRecord.{FlowRecord}
 use Rattle.drr.specs.Limits.{most_flows, most_events}
 use Rattle.runfile.specs.File.{Event, header_size}
 use Rattle.text.proofs.Texts.{sets_two}
-use Rattle.textform.specs.declared.make.Progress.{Progress}
-use Rattle.textform.specs.declared.make.Put.TheVariants.{Goes, Stops}
-use Rattle.textform.specs.declared.Want.TheVariants as want
-use Rattle.textform.specs.declared.Item.TheVariants.{Nothing, OverheadOf, FlowOf, EventOf}
-use Rattle.textform.specs.Made.{draft, overhead_said, flow_of, event_of, with_overhead, with_flow, with_event}
-use Rattle.textform.specs.Made.{flow_bytes, event_bytes, record_bytes}
-use Rattle.textform.specs.Needs.{Fits, Holds, Stepped}
+use Rattle.textform.specs.declared.progress.Progress.{Progress}
+use Rattle.textform.specs.declared.Item.TheVariants.{OverheadOf, FlowOf, EventOf}
+use Rattle.textform.specs.Made.{Draft, flow_of, event_of, with_overhead, with_flow, with_event, judged}
+use Rattle.textform.specs.Made.{bytes2, bytes4, flow_bytes, event_bytes, record_bytes}
+use Rattle.textform.specs.Needs.{zeros, said, Holds, Gone}
 use Rattle.textform.proofs.Puts.{put_flow, put_event}
 
--- as they were, but for the records
-abbrev counts : Progress → ℕ → ℕ → ℕ → Progress
-counts c flows events last =
-    record { overhead = c.overhead; overheads = c.overheads; flows = flows; events = events; last = last }
+-- ---- little-endian
+pub written2 : (n : ℕ) → n < 65536 → to_le_bytes w16 n ≡ bytes2 n
+written2 n h =
+    let e : n / 256 % 256 ≡ n / 256 = omega arith in
+    ap (λ (b : ℕ). n % 256 ∷ b ∷ []) e
 
--- .. and but for the overhead
-abbrev told : Progress → ℕ → Progress
-told c o =
-    record { overhead = o; overheads = c.overheads + 1; flows = c.flows; events = c.events; last = c.last }
+pub written4 : (n : ℕ) → n < 4294967296 → to_le_bytes w32 n ≡ bytes4 n
+written4 n h =
+    let e0 : n % 256 ≡ n % 65536 % 256 = omega arith in
+    let e1 : n / 256 % 256 ≡ n % 65536 / 256 = omega arith in
+    let e2 : n / 65536 % 256 ≡ n / 65536 % 256 = refl in
+    let e3 : n / 16777216 % 256 ≡ n / 65536 / 256 = omega arith in
+    (λ i. e0 i ∷ e1 i ∷ e2 i ∷ e3 i ∷ [])
 
-module _ (c : Progress) (b b' : List ℕ) (fits : Fits c b) where
-  -- ---- a line without a record
-  pub no_record : Stepped c Nothing b b (Goes c)
-  no_record z d k held = record { next = d; goes_to = refl; next_counted = k; next_held = held; next_fits = fits }
+-- bytes put behind others
+pub then_put : (b u v m m' : List ℕ) (at k : ℕ) → k ≡ at + length u → m ≡ sets b at u → m' ≡ sets m k v → m' ≡ sets b at (u ++ v)
+then_put b u v m m' at k e is is' =
+    is' ∙ (λ i. sets (is i) (e i) v) ∙ sets_two b u v at
 
-  -- ---- the overhead
-  module _ (o : ℕ) where
-    pub overhead_first : 0 < c.flows → Stepped c (OverheadOf o) b b' (Stops want.OverheadFirst)
-    overhead_first h d k = rw (lt-ltb 0 (length d.flows) (omega (arith, h, k.flows_are)))
+-- ---- the overhead
+none_said : (os : List ℕ) → is_some (said os) ≡ false → os ≡ []
+none_said [] e = refl
+none_said (o ∷ os) e = absurd (true≢false e)
 
-    module _ (none : c.flows ≤ 0) where
-      pub second_overhead : 0 < c.overheads → Stepped c (OverheadOf o) b b' (Stops want.OneOverhead)
-      second_overhead h d k = rw (
+pub one_overhead : (c c' : Progress) (d : Draft) → Holds c d → (o : ℕ) → c.flows ≤ 0 → is_some c.overhead ≡ false → c'.overhead ≡ Some o →
+    c'.file ≡ c.file → c'.flows ≡ c.flows → c'.events ≡ c.events → c'.last ≡ c.last → Gone c' (judged d (OverheadOf o))
+one_overhead c c' d k o none first is file flows events last =
+    let no_overhead : d.overheads ≡ [] = none_said d.overheads (ap (λ (x : Option ℕ). is_some x) (sym k.overhead_is) ∙ first) in
+    record {
+      next = with_overhead d o;
+      goes_to = rw (
         le-ltb 0 (length d.flows) (omega (arith, none, k.flows_are)),
-        lt-ltb 0 (length d.overheads) (omega (arith, h, k.overheads_are)),
-      )
+        le-ltb 0 (length d.overheads) (omega (arith, ap length no_overhead)),
+      );
+      next_held = record {
+        overhead_is = is ∙ ap (λ (os : List ℕ). said (os ++ o ∷ [])) (sym no_overhead);
+        flows_are = flows ∙ k.flows_are;
+        events_are = events ∙ k.events_are;
+        last_is = last ∙ k.last_is;
+        file_is = file ∙ k.file_is;
+      };
+    }
 
-      pub one_overhead : c.overheads ≤ 0 → Stepped c (OverheadOf o) b b (Goes (told c o))
-      one_overhead h z d k held = record {
-        next = with_overhead d o;
-        goes_to = rw (
-          le-ltb 0 (length d.flows) (omega (arith, none, k.flows_are)),
-          le-ltb 0 (length d.overheads) (omega (arith, h, k.overheads_are)),
-        );
-        next_counted = record {
-          overhead_is = by d.overheads (omega (arith, h, k.overheads_are));
-          overheads_are = omega (arith, k.overheads_are, length-append d.overheads (o ∷ []));
-          flows_are = k.flows_are;
-          events_are = k.events_are;
-          last_is = k.last_is;
-        };
-        next_held = held;
-        next_fits = record { flows_fit = fits.flows_fit; events_fit = fits.events_fit; room = fits.room };
-      }
-        where
-          by : (os : List ℕ) → length os ≡ 0 → o ≡ overhead_said (os ++ o ∷ [])
-          by [] e = refl
-          by (x ∷ os) e = absurd (omega arith)
-
+module _ (c c' : Progress) (d : Draft) (k : Holds c d) (same_overhead : c'.overhead ≡ c.overhead) where
   -- ---- a flow
-  module _ (q l : ℕ) where
-    pub events_only : 0 < c.events → Stepped c (FlowOf q l) b b' (Stops want.EventsOnly)
-    events_only h d k = rw (lt-ltb 0 (length d.events) (omega (arith, h, k.events_are)))
-
-    module _ (none : c.events ≤ 0) where
-      pub fewer_flows : most_flows ≤ c.flows → Stepped c (FlowOf q l) b b' (Stops want.FewerFlows)
-      fewer_flows h d k = rw (
-        le-ltb 0 (length d.events) (omega (arith, none, k.events_are)),
-        le-leb most_flows (length d.flows) (omega (arith, h, k.flows_are)),
-      )
-
-      pub one_flow : c.flows < most_flows → b' ≡ sets b (header_size + 8 * c.flows) (flow_bytes (flow_of q l)) →
-          Stepped c (FlowOf q l) b b' (Goes (counts c (c.flows + 1) c.events c.last))
-      one_flow h is z d k held = record {
-        next = with_flow d q l;
-        goes_to = rw (
-          le-ltb 0 (length d.events) (omega (arith, none, k.events_are)),
-          lt-leb most_flows (length d.flows) (omega (arith, h, k.flows_are)),
-        );
-        next_counted = record {
-          overhead_is = k.overhead_is;
-          overheads_are = k.overheads_are;
-          flows_are = omega (arith, k.flows_are, length-append d.flows (flow_of q l ∷ []));
-          events_are = k.events_are;
-          last_is = k.last_is;
-        };
-        next_held = is
-            ∙ ap (λ (i : ℕ). sets b (header_size + 8 * i) (flow_bytes (flow_of q l))) k.flows_are
-            ∙ by d.flows d.events held (omega (arith, none, k.events_are));
-        next_fits = record {
-          flows_fit = omega arith;
-          events_fit = fits.events_fit;
-          room = ap length is ∙ length-sets b (header_size + 8 * c.flows) (flow_bytes (flow_of q l)) ∙ fits.room;
-        };
-      }
-        where
-          by : (xs : List FlowRecord) (es : List Event) → Holds z (draft [] xs es 0) b → length es ≡ 0 →
-              sets b (header_size + 8 * length xs) (flow_bytes (flow_of q l)) ≡ sets z header_size (record_bytes (xs ++ flow_of q l ∷ []) es)
-          by xs [] held e = ap (λ (y : List ℕ). sets y (header_size + 8 * length xs) (flow_bytes (flow_of q l))) held ∙ put_flow z xs
-              (flow_of q l)
-          by xs (x ∷ es) held e = absurd (omega arith)
+  pub one_flow : (q l : ℕ) → c.events ≤ 0 → c.flows < most_flows →
+      c'.file ≡ sets c.file (header_size + 8 * c.flows) (flow_bytes (flow_of q l)) → c'.flows ≡ c.flows + 1 → c'.events ≡ c.events →
+      c'.last ≡ c.last → Gone c' (judged d (FlowOf q l))
+  one_flow q l none few is more same last = record {
+    next = with_flow d q l;
+    goes_to = rw (
+      le-ltb 0 (length d.events) (omega (arith, none, k.events_are)),
+      lt-leb most_flows (length d.flows) (omega (arith, few, k.flows_are)),
+    );
+    next_held = record {
+      overhead_is = same_overhead ∙ k.overhead_is;
+      flows_are = omega (arith, more, k.flows_are, length-append d.flows (flow_of q l ∷ []));
+      events_are = same ∙ k.events_are;
+      last_is = last ∙ k.last_is;
+      file_is = is
+          ∙ (λ i. sets c.file (header_size + 8 * k.flows_are i) (flow_bytes (flow_of q l)))
+          ∙ by d.flows d.events k.file_is (omega (arith, none, k.events_are));
+    };
+  }
+    where
+      by : (xs : List FlowRecord) (es : List Event) → c.file ≡ sets zeros header_size (record_bytes xs es) → length es ≡ 0 →
+          sets c.file (header_size + 8 * length xs) (flow_bytes (flow_of q l))
+          ≡ sets zeros header_size (record_bytes (xs ++ flow_of q l ∷ []) es)
+      by xs [] held e =
+          ap (λ (y : List ℕ). sets y (header_size + 8 * length xs) (flow_bytes (flow_of q l))) held ∙ put_flow zeros xs (flow_of q l)
+      by xs (x ∷ es) held e = absurd (omega arith)
 
   -- ---- an event
-  module _ (t f n : ℕ) where
-    pub flows_first : c.flows ≡ 0 → Stepped c (EventOf t f n) b b' (Stops want.FlowsFirst)
-    flows_first h d k = rw (eq-eqb (length d.flows) 0 (omega (arith, h, k.flows_are)))
-
-    module _ (some : c.flows ≡ 0 → ⊥) where
-      pub fewer_events : most_events ≤ c.events → Stepped c (EventOf t f n) b b' (Stops want.FewerEvents)
-      fewer_events h d k = rw (
-        ne_eqb (length d.flows) 0 (λ e. some (omega (arith, e, k.flows_are))),
-        le-leb most_events (length d.events) (omega (arith, h, k.events_are)),
-      )
-
-      module _ (few : c.events < most_events) where
-        pub later_tick : t < c.last → Stepped c (EventOf t f n) b b' (Stops want.LaterTick)
-        later_tick h d k = rw (
-          ne_eqb (length d.flows) 0 (λ e. some (omega (arith, e, k.flows_are))),
-          lt-leb most_events (length d.events) (omega (arith, few, k.events_are)),
-          lt-ltb t d.last (omega (arith, h, k.last_is)),
-        )
-
-        pub one_event : c.last ≤ t → b' ≡ sets b (header_size + 8 * c.flows + 8 * c.events) (event_bytes (event_of t f n)) →
-            Stepped c (EventOf t f n) b b' (Goes (counts c c.flows (c.events + 1) t))
-        one_event h is z d k held = record {
-          next = with_event d t f n;
-          goes_to = rw (
-            ne_eqb (length d.flows) 0 (λ e. some (omega (arith, e, k.flows_are))),
-            lt-leb most_events (length d.events) (omega (arith, few, k.events_are)),
-            le-ltb t d.last (omega (arith, h, k.last_is)),
-          );
-          next_counted = record {
-            overhead_is = k.overhead_is;
-            overheads_are = k.overheads_are;
-            flows_are = k.flows_are;
-            events_are = omega (arith, k.events_are, length-append d.events (event_of t f n ∷ []));
-            last_is = refl;
-          };
-          next_held = is
-              ∙ ap (λ (i : ℕ). sets b (header_size + 8 * i + 8 * c.events) (event_bytes (event_of t f n))) k.flows_are
-              ∙ ap (λ (i : ℕ). sets b (header_size + 8 * length d.flows + 8 * i) (event_bytes (event_of t f n))) k.events_are
-              ∙ ap (λ (y : List ℕ). sets y (header_size + 8 * length d.flows + 8 * length d.events) (event_bytes (event_of t f n))) held
-              ∙ put_event z d.flows d.events (event_of t f n);
-          next_fits = record {
-            flows_fit = fits.flows_fit;
-            events_fit = omega arith;
-            room = ap length is ∙ length-sets b (header_size + 8 * c.flows + 8 * c.events) (event_bytes (event_of t f n)) ∙ fits.room;
-          };
-        }
-
--- ---- bytes put behind others at the start of a buffer
-pub then_put : (b u v m m' : List ℕ) → m ≡ sets b 0 u → m' ≡ sets m (length u) v → m' ≡ sets b 0 (u ++ v)
-then_put b u v m m' is is' =
-    is' ∙ ap (λ (y : List ℕ). sets y (length u) v) is ∙ ap (λ (k : ℕ). sets (sets b 0 u) k v) (sym (zero-add (length u)))
-    ∙ sets_two b u v 0
+  pub one_event : (t f n : ℕ) → (c.flows ≡ 0 → ⊥) → c.events < most_events → c.last ≤ t →
+      c'.file ≡ sets c.file (header_size + 8 * c.flows + 8 * c.events) (event_bytes (event_of t f n)) → c'.flows ≡ c.flows →
+      c'.events ≡ c.events + 1 → c'.last ≡ t → Gone c' (judged d (EventOf t f n))
+  one_event t f n some few later is same more last = record {
+    next = with_event d t f n;
+    goes_to = rw (
+      ne_eqb (length d.flows) 0 (λ e. some (omega (arith, e, k.flows_are))),
+      lt-leb most_events (length d.events) (omega (arith, few, k.events_are)),
+      le-ltb t d.last (omega (arith, later, k.last_is)),
+    );
+    next_held = record {
+      overhead_is = same_overhead ∙ k.overhead_is;
+      flows_are = same ∙ k.flows_are;
+      events_are = omega (arith, more, k.events_are, length-append d.events (event_of t f n ∷ []));
+      last_is = last;
+      file_is = is
+          ∙ (λ i. sets (k.file_is i) (header_size + 8 * k.flows_are i + 8 * k.events_are i) (event_bytes (event_of t f n)))
+          ∙ put_event zeros d.flows d.events (event_of t f n);
+    };
+  }

@@ -1,5 +1,5 @@
 -- The run file that a text makes, or the text's first fault.
-use Rattle.std.specs.Prelude.{◌≡◌, cond, List, [], ◌∷◌, ◌++◌, ℕ, ◌+◌, ◌*◌, ◌/◌, ◌%◌, eqb, ltb, leb, length, take, replicate}
+use Rattle.std.specs.Prelude.{◌≡◌, cond, List, [], ◌∷◌, ◌++◌, ℕ, ◌+◌, ◌*◌, ◌/◌, ◌%◌, eqb, ltb, leb, length, take, replicate, Result, Ok, Err}
 use Rattle.io.specs.Counts.{IsPrefixLen}
 use Rattle.drr.specs.declared.FlowRecord.{FlowRecord}
 use Rattle.drr.specs.Limits.{most_flows, most_events}
@@ -8,10 +8,9 @@ use Rattle.text.specs.Text.{overlaid}
 use Rattle.textform.specs.declared.Want.{Want}
 use Rattle.textform.specs.declared.Want.TheVariants as want
 use Rattle.textform.specs.declared.Item.{Item}
-use Rattle.textform.specs.declared.Item.TheVariants.{Nothing, OverheadOf, FlowOf, EventOf, Wrong}
+use Rattle.textform.specs.declared.Item.TheVariants.{Nothing, OverheadOf, FlowOf, EventOf}
 use Rattle.textform.specs.declared.Made.{Made}
-use Rattle.textform.specs.declared.Making.{Making}
-use Rattle.textform.specs.declared.Making.TheVariants.{File, Fault}
+use Rattle.textform.specs.declared.Fault.{Fault}
 use Rattle.textform.specs.Grammar.{lines_of, item_of}
 
 -- ---- the records of a text, line by line
@@ -57,7 +56,6 @@ with_event d t f n = draft d.overheads d.flows (d.events ++ event_of t f n ∷ [
 -- never fall
 abbrev pub judged : Draft → Item → Step
 judged d Nothing = goes d
-judged d (Wrong w) = stops w
 judged d (OverheadOf o) =
     cond (ltb 0 (length d.flows)) (stops want.OverheadFirst)
     (cond (ltb 0 (length d.overheads)) (stops want.OneOverhead)
@@ -72,6 +70,11 @@ judged d (EventOf t f n) =
     (cond (ltb t d.last) (stops want.LaterTick)
     (goes (with_event d t f n))))
 
+-- .. of a line, which says a record or is not what was expected
+abbrev pub judged_line : Draft → Result Item Want → Step
+judged_line d (Ok item) = judged d item
+judged_line d (Err w) = stops w
+
 -- what becomes of a text: its records, or the number of the line at fault, from 1, and what was expected there
 pub data Outcome : Type 0 where
   made : Draft → Outcome
@@ -84,7 +87,7 @@ and_then (stops w) then otherwise = otherwise w
 -- the lines behind line number i; there must be a flow
 abbrev pub drafted : ℕ → Draft → List (List ℕ) → Outcome
 drafted i d [] = cond (eqb (length d.flows) 0) (fault i want.FlowsFirst) (made d)
-drafted i d (l ∷ ls) = and_then (judged d (item_of l)) (λ next. drafted (i + 1) next ls) (λ w. fault (i + 1) w)
+drafted i d (l ∷ ls) = and_then (judged_line d (item_of l)) (λ next. drafted (i + 1) next ls) (λ w. fault (i + 1) w)
 
 -- a text of more bytes than this is at fault in the line where it passes them
 abbrev pub most_text : ℕ
@@ -140,12 +143,16 @@ bytes_in (fault i w) = []
 unfoldable pub made_bytes : List ℕ → List ℕ
 made_bytes text = bytes_in (outcome_of text)
 
--- how many bytes the file has, or the fault
-abbrev pub making_in : Outcome → Making
-making_in (made d) = File (header_size + 8 * length d.flows + 8 * length d.events)
-making_in (fault i w) = Fault i w
+-- the fault in line i, as the code hands it on
+abbrev pub fault_at : ℕ → Want → Fault
+fault_at i w = record { line = i; want = w }
 
-unfoldable pub making_of : List ℕ → Making
+-- how many bytes the file has, or the fault
+abbrev pub making_in : Outcome → Result ℕ Fault
+making_in (made d) = Ok (header_size + 8 * length d.flows + 8 * length d.events)
+making_in (fault i w) = Err (fault_at i w)
+
+unfoldable pub making_of : List ℕ → Result ℕ Fault
 making_of text = making_in (outcome_of text)
 
 -- "a file without gaps takes at most 8,340 bytes"
@@ -161,4 +168,4 @@ made_of text = made_in (outcome_of text)
 
 -- the size that is answered is within the bytes, so that they can be lent as a part, `&file[..size]`; it follows from `made_of`
 abbrev pub Whole : Made → Type 0
-Whole m = (n : ℕ) → m.answer ≡ File n → IsPrefixLen n m.file
+Whole m = (n : ℕ) → m.answer ≡ Ok n → IsPrefixLen n m.file

@@ -2,6 +2,7 @@
 #![tactic(auto)]
 
 pub mod make;
+mod progress;
 pub mod show;
 pub mod told;
 
@@ -26,28 +27,27 @@ pub enum Want {
     Shorter,
 }
 
-// What a line says: nothing, the table's overhead, a flow's quantum and maximum, an event's tick, flow and
-// length, or something else than was expected.
+// A text's first fault: its line, from 1, and what was expected there.
+#[derive(Clone, Copy)]
+pub struct Fault {
+    pub line: usize,
+    pub want: Want,
+}
+
+// What a line says: nothing, the table's overhead, a flow's quantum and maximum, or an event's tick, flow
+// and length.
 #[derive(Clone, Copy)]
 pub enum Item {
     Nothing,
     OverheadOf(u32),
     FlowOf(u32, u32),
     EventOf(u32, u16, u16),
-    Wrong(Want),
 }
 
-// What becomes of a text: a file of so many bytes, or a fault in this line, from 1.
-#[derive(Clone, Copy)]
-pub enum Making {
-    File(usize),
-    Fault(usize, Want),
-}
-
-// The file of a text at the start of so many bytes, zeros behind it, beside its answer; zeros
-// throughout beside a fault.
+// What becomes of a text: a file of so many bytes, or a fault. The file stands at the start of these bytes,
+// zeros behind it; zeros throughout beside a fault.
 #[derive(Clone, Copy)]
 pub struct Made {
-    pub answer: Making,
+    pub answer: Result<usize, Fault>,
     pub file: [u8; 8340],
 }

@@ -1,5 +1,5 @@
-// A number in a wider type. Each cast stands here once, as a function, since a cast in the midst of an
-// expression asks for a fact of its own there.
+// A number in a wider type, for code that names the types. The crates here write `u64::from(x)` or `x as usize` where
+// they need it.
 #![tactic(auto)]
 
 ghost use Rattle.std.specs.Prelude.{◌≡◌, ◌≤◌};
@@ -7,7 +7,7 @@ ghost use Rattle.std.specs.Prelude.{◌≡◌, ◌≤◌};
 pub fn usize_of_u8(byte: u8) -> usize
     ensures { (result ≡ byte) × (result ≤ 255) }
 {
-    byte as usize
+    usize::from(byte)
 }
 
 pub fn usize_of_u32(x: u32) -> usize
@@ -19,7 +19,7 @@ pub fn usize_of_u32(x: u32) -> usize
 pub fn u64_of_u32(word: u32) -> u64
     ensures { (result ≡ word) × (result ≤ 4294967295) }
 {
-    word as u64
+    u64::from(word)
 }
 
 pub fn u64_of_usize(size: usize) -> u64

@@ -6,72 +6,44 @@
 // of the run are left out: the calls stand in its order.
 #![tactic(auto)]
 
-use drr::{ArrivalAnswer, FlowList, FlowRecord, PickAnswer, State, Terms, Verdict};
+use drr::{FlowRecord, PickAnswer, State, Terms};
 
-fn field(x: u64) {
-    io::write_all(1, b" ");
-    io::print_decimal(1, x);
-}
-
-fn end() {
+// A line: what it tells, and its numbers.
+fn line(told: &[u8], numbers: &[u64]) {
+    io::write_all(1, told);
+    for number in numbers {
+        io::write_all(1, b" ");
+        io::print_decimal(1, *number);
+    }
     io::write_all(1, b"\n");
 }
 
-fn show(deficits: [u32; 16]) {
-    io::write_all(1, b"=");
-    field(widths::u64_of_u32(deficits[0]));
-    field(widths::u64_of_u32(deficits[1]));
-    field(widths::u64_of_u32(deficits[2]));
-    end();
-}
-
 fn arrive(s: State, flow: usize, length: u32) -> State {
-    let r = scheduler::arrival(s, flow, length);
-    let answer = r.answer;
-    match answer {
-        ArrivalAnswer::Accepted => {
-            io::write_all(1, b"A");
-            field(widths::u64_of_usize(flow));
-            field(widths::u64_of_u32(length));
-            end();
-        }
-        ArrivalAnswer::Refused(why) => {
-            io::write_all(1, b"D");
-            field(widths::u64_of_usize(flow));
-            field(widths::u64_of_u32(length));
-            field(widths::u64_of_u32(drr::refusal_number(why)));
-            end();
+    let arrived = scheduler::arrival(s, flow, length);
+    let (flow, length) = (flow as u64, u64::from(length));
+    match arrived.answer {
+        Ok(()) => line(b"A", &[flow, length]),
+        Err(why) => {
+            let number = u64::from(drr::refusal_number(why));
+            line(b"D", &[flow, length, number])
         }
     }
-    r.state
+    arrived.state
 }
 
 fn take(s: State) -> State {
-    let r = scheduler::pick(s);
-    let answer = r.answer;
-    match answer {
-        PickAnswer::Idle => {
-            io::write_all(1, b"I\n");
-        }
+    let picked = scheduler::pick(s);
+    match picked.answer {
+        PickAnswer::Idle => line(b"I", &[]),
         PickAnswer::Sent(flow, length, deficit, visits) => {
-            io::write_all(1, b"S");
-            field(widths::u64_of_usize(flow));
-            field(widths::u64_of_u32(length));
-            field(widths::u64_of_u32(deficit));
-            field(widths::u64_of_u32(visits));
-            end();
+            let numbers = [length, deficit, visits].map(u64::from);
+            line(b"S", &[flow as u64, numbers[0], numbers[1], numbers[2]])
         }
-        PickAnswer::Refused(why) => {
-            io::write_all(1, b"R");
-            field(widths::u64_of_u32(drr::refusal_number(why)));
-            end();
-        }
+        PickAnswer::Refused(why) => { line(b"R", &[u64::from(drr::refusal_number(why))]) }
     }
-    let after = r.state;
-    let line = after.line;
-    let deficits = line.deficits;
-    show(deficits);
-    after
+    let deficits = picked.state.line.deficits.map(u64::from);
+    line(b"=", &deficits[..3]);
+    picked.state
 }
 
 fn calls(fresh: State) {
@@ -91,32 +63,14 @@ fn calls(fresh: State) {
 }
 
 fn main() {
-    let mut list = [FlowRecord {
-        quantum: 500,
-        maximum: 800,
-    }; 17];
-    list[1] = FlowRecord {
-        quantum: 300,
-        maximum: 800,
-    };
-    list[2] = FlowRecord {
-        quantum: 400,
-        maximum: 600,
-    };
-    let m = scheduler::flows::setup_of(
-        FlowList {
-            records: list,
-            count: 3,
-        },
-        Terms { overhead: 0 },
-    );
-    let answer = m.answer;
-    if let Verdict::Refused(why, place) = answer {
-        io::write_all(1, b"R");
-        field(widths::u64_of_u32(drr::refusal_number(why)));
-        field(widths::u64_of_usize(place));
-        end();
-        return;
+    let flow = |quantum, maximum| FlowRecord { quantum, maximum };
+    let list = [flow(500, 800), flow(300, 800), flow(400, 600)];
+    let made = scheduler::flows::setup(&list, Terms { overhead: 0 });
+    match made.answer {
+        Ok(()) => calls(made.state),
+        Err(fault) => {
+            let number = u64::from(drr::refusal_number(fault.why));
+            line(b"R", &[number, fault.place as u64])
+        }
     }
-    calls(m.state);
 }

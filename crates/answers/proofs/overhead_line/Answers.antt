@@ -11,5 +11,5 @@ returns-then-overhead-eq0 c =
 pub returns : goal.returns
 returns c =
     let a = c.args in
-    as_text _ _ a.buf.now _ _ (overhead_some a.overhead (length a.buf.now) _ c.if-overhead-eq0.false c.u64_of_u32.ensures.0)
+    as_text _ _ a.buf.now _ _ (overhead_some a.overhead (length a.buf.now) _ c.if-overhead-eq0.false c.from.ensures)
     (c.around_text.ensures.value, c.around_text.ensures.buf_after)

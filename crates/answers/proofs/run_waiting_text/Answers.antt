@@ -1,6 +1,6 @@
 use Rattle.std.proofs.Common.{ℕ, length, arith, refl, sym, ap, ◌∙◌}
 use Rattle.std.proofs.lemmas.List.{length-replicate}
-use Rattle.drr.specs.Answers.{Answer, verdict_paper}
+use Rattle.drr.specs.Answers.{Answer}
 use Rattle.text.specs.Text.{beside_text}
 use Rattle.answers.proofs.Given.{given, waiting_short, waiting_fits, refusal_fits, beside_fits}
 use Rattle.answers.proofs.Shown.{waiting_refusal, waiting_listing}
@@ -12,24 +12,24 @@ returns-then-buf-lt-WAITING_ROOM c =
     let g = given _ _ a.buf.now _ _ (waiting_short a.file.now (length a.buf.now) c.if-buf-lt-WAITING_ROOM.true) (refl, refl) in
     record { value = g.0; buf_after = g.1.0; prefix_len = g.1.1 }
 
-pub returns-in-Refused : goal.returns-in-Refused
-returns-in-Refused c =
+pub returns-in-Err : goal.returns-in-Err
+returns-in-Err c =
     let a = c.args in
     let room = c.if-buf-lt-WAITING_ROOM.false in
-    let e = sym (ap verdict_paper c.in-Refused.is) ∙ c.run_waiting-answer.ensures.result_value in
+    let e = c.in-Err.ensures.result_value in
     let g = given _ _ a.buf.now _ _
     (refusal_fits _ _ _ (omega (arith, room))
-    ∙ waiting_refusal a.file.now _ (omega (arith, length-replicate {A = ℕ} 6150 0, length-replicate {A = ℕ} 1024 0)) c.in-Refused.why _ e
+    ∙ waiting_refusal a.file.now _ (omega (arith, length-replicate {A = ℕ} 6150 0, length-replicate {A = ℕ} 1024 0)) _ _ e
     ∙ waiting_fits a.file.now (length a.buf.now) room)
     c.refusal_line.ensures in
     record { value = g.0; buf_after = g.1.0; prefix_len = g.1.1 }
 
-pub returns : goal.returns
-returns c =
+pub returns-in-Ok : goal.returns-in-Ok
+returns-in-Ok c =
     let a = c.args in
     let room = c.if-buf-lt-WAITING_ROOM.false in
-    let r = c.run_waiting-answer in
-    let fine = ap (λ (a : Answer). a.refusal) (sym r.ensures.result_value ∙ ap verdict_paper c.in_default.is) in
+    let r = c.run_waiting in
+    let fine = ap (λ (a : Answer). a.refusal) (sym c.in-Ok.ensures.result_value) in
     let g = given _ _ a.buf.now _ _
     (beside_fits _ _ _
     (omega (arith, room, r.auto.out, r.auto.beside, length-replicate {A = ℕ} 6150 0, length-replicate {A = ℕ} 1024 0))

@@ -1,29 +1,36 @@
-use Rattle.std.proofs.Common.{◌-◌, ◌≤◌, ◌<◌, get_or, rules, sym, ap, ◌∙◌}
-use Rattle.drr.specs.declared.Found.TheVariants.{At}
-use Rattle.drr.specs.Pick.{after, first_of}
+use Rattle.std.proofs.Common.{Some, ◌≡◌, ◌+◌, ◌-◌, ◌≤◌, ◌<◌, get_or, arith, rules, sym, ap, ◌∙◌}
+use Rattle.drr.specs.Pick.{after}
 use Rattle.drr.proofs.Search.{first_here, first_on, first_none, after_low}
 use Rattle.engine.proofs.next_waiting.Goals as goal
 
 pub returns-then-counts-f-gt0 : goal.returns-then-counts-f-gt0
 returns-then-counts-f-gt0 c =
-    let a = c.args in
-    let l = c.loop-left in
-    let e = c.after_flow-f.ensures in
-    let some : 0 < get_or a.counts.now (after a.n l.f) 0 = rw e at c.if-counts-f-gt0.true in
-    ap At e ∙ sym (l.invariant.1 ∙ first_here a.n a.counts.now l.left l.f (search rules) some)
+    let n = c.args.n in
+    let w = c.args.counts.now in
+    let l = c.loop in
+    let some : 0 < get_or w (after n l.f) 0 = rw c.after_flow-f.ensures at c.if-counts-f-gt0.true in
+    record {
+      first = ap Some c.after_flow-f.ensures ∙ sym (l.invariant.1 ∙ first_here n w (n - l.counter) l.f (omega arith) some);
+      low = rw c.after_flow-f.ensures (after_low n l.f (search rules));
+    }
 
-pub loop-left-preserved : goal.loop-left-preserved
-loop-left-preserved c =
-    let a = c.args in
-    let l = c.loop-left in
-    let e = c.after_flow-f.ensures in
-    let none : get_or a.counts.now (after a.n l.f) 0 ≤ 0 = rw e at c.if-counts-f-gt0.false in (
-      rw e (after_low a.n l.f (search rules)),
-      l.invariant.1 ∙ first_on a.n a.counts.now l.left l.f (search rules) none
-          ∙ ap (first_of a.n a.counts.now (l.left - 1)) (sym e),
+pub loop-preserved : goal.loop-preserved
+loop-preserved c =
+    let n = c.args.n in
+    let w = c.args.counts.now in
+    let l = c.loop in
+    let none : get_or w (after n l.f) 0 ≤ 0 = rw c.after_flow-f.ensures at c.if-counts-f-gt0.false in
+    let left : n - l.counter - 1 ≡ n - (l.counter + 1) = omega arith in
+    rw (c.after_flow-f.ensures, ← left) (
+      after_low n l.f (search rules),
+      l.invariant.1 ∙ first_on n w (n - l.counter) l.f (omega arith) none,
     )
 
 pub returns : goal.returns
 returns c =
-    let l = c.loop-left in
-    sym (l.invariant.1 ∙ first_none c.args.n c.args.counts.now l.left l.f (search rules))
+    let n = c.args.n in
+    let l = c.loop in
+    record {
+      first = sym (l.invariant.1 ∙ first_none n c.args.counts.now (n - l.counter) l.f (omega arith));
+      low = tt;
+    }

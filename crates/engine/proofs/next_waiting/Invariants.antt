@@ -1,11 +1,8 @@
 -- What is left of the search finds what the whole finds.
-use Rattle.std.proofs.Common.{◌≡◌, ◌<◌}
+use Rattle.std.proofs.Common.{◌≡◌, ◌-◌, ◌<◌}
 use Rattle.drr.specs.Limits.{most_flows}
 use Rattle.drr.specs.Pick.{first_of}
 use Rattle.engine.proofs.next_waiting.Given as goal
 
-abbrev pub invariant-loop-left : goal.invariant-loop-left
-invariant-loop-left l = (l.f < most_flows) × (first_of l.n l.counts l.n l.place ≡ first_of l.n l.counts l.left l.f)
-
-abbrev pub decreases-loop-left : goal.decreases-loop-left
-decreases-loop-left l = l.left
+abbrev pub invariant-loop : goal.invariant-loop
+invariant-loop l = (l.f < most_flows) × (first_of l.n l.counts l.n l.place ≡ first_of l.n l.counts (l.n - l.counter) l.f)

@@ -1,24 +1,22 @@
-use Rattle.std.proofs.Common.{◌∙◌}
-use Rattle.drr.specs.State.{table_of, line_of}
-use Rattle.engine.proofs.Loop.{Ends, starts_shut, stops_short, stops_empty, ready, goes}
+use Rattle.std.proofs.Common.{arith, ◌∙◌}
+use Rattle.drr.specs.State.{line_in}
+use Rattle.engine.proofs.Rows.{oldest_at}
+use Rattle.engine.proofs.Loop.{Ends, starts_shut, stops_short, stops_empty, ready}
 use Rattle.engine.proofs.pick_in.Goals as goal
-use Rattle.engine.proofs.pick_in.Goals.{then-spot+then-counts-f-gt0+else-charge_of-deficits, then-spot+else-counts-f-gt0, else-spot}
-
-pub returns-then-charge_of-deficits : goal.returns-then-charge_of-deficits
-returns-then-charge_of-deficits c =
-    c.send.ensures
-    ∙ goes (table_of c.args.common c.args.quanta.now c.args.maxima.now) _ c.requires c.if-spot.true c.if-counts-f-gt0.true (rw c.charge_of.ensures at c.if-charge_of-deficits.true)
+use Rattle.engine.proofs.pick_in.Goals.{then-line, then-line-f-eq0, else-line-f-eq0+else-charge_of-line, else-line}
 
 -- where step 1 sends nothing, the ways meet
-ends : (c : goal.After-look-arg-4-1) →
-    Ends (table_of c.args.common c.args.quanta.now c.args.maxima.now)
-    (line_of c.args.counts.now c.args.sums.now c.args.deficits.now c.args.rows.now c.args.spot) c.if-spot.deficits
+ends : (c : goal.After-look-arg-1) → Ends c.args.table.now (line_in c.args.line.now) (line_in c.if-line.line)
 ends c =
-    elim c.if-spot.branch [
-      | then-spot+then-counts-f-gt0+else-charge_of-deficits w ↦
-          stops_short _ _ c.requires w.if-spot.true w.if-counts-f-gt0.true (rw w.charge_of.ensures at w.if-charge_of-deficits.false) _ w.deficits-is
-      | then-spot+else-counts-f-gt0 w ↦ stops_empty _ _ c.requires w.if-spot.true w.if-counts-f-gt0.false _ w.deficits-is
-      | else-spot w ↦ starts_shut _ _ c.requires w.if-spot.false _ w.deficits-is
+    elim c.if-line.branch [
+      | then-line w ↦
+          elim w.if-line-f-eq0.branch [
+            | then-line-f-eq0 w' ↦ rw (w.line-is, w'.line-is) (stops_empty _ _ c.requires w.if-line.true w'.if-line-f-eq0.true)
+            | else-line-f-eq0+else-charge_of-line w' ↦
+                rw (w.line-is, w'.line-is) (stops_short _ _ c.requires w.if-line.true (omega (arith, w'.if-line-f-eq0.false))
+                (rw (oldest_at c.args.table.now c.args.line.now c.args.line.now.place, ← w'.charge_of.ensures) w'.if-charge_of-line.false))
+          ]
+      | else-line w ↦ rw w.line-is (starts_shut _ _ c.requires w.if-line.false)
     ]
 
 pub returns : goal.returns
@@ -26,7 +24,8 @@ returns c = c.look.ensures ∙ (ends c.before).same
 
 pub send-requires : goal.send-requires
 send-requires c =
-    ready (table_of c.args.common c.args.quanta.now c.args.maxima.now) _ c.requires c.if-spot.true c.if-counts-f-gt0.true (rw c.charge_of.ensures at c.if-charge_of-deficits.true)
+    ready c.args.table.now (line_in c.args.line.now) c.requires c.if-line.true (omega (arith, c.if-line-f-eq0.false))
+    (rw (oldest_at c.args.table.now c.args.line.now c.args.line.now.place, ← c.charge_of.ensures) c.if-charge_of-line.true)
 
-pub look-requires : goal.look-requires
-look-requires c = (ends c).sound
+pub look-requires-clause-sound : goal.look-requires-clause-sound
+look-requires-clause-sound c = (ends c).sound

@@ -3,4 +3,4 @@ use Rattle.exports.specs.Told.{figure_told}
 use Rattle.exports.proofs.wikulambag_waiting_bytes.Goals as goal
 
 pub returns : goal.returns
-returns c = c.figure_told.ensures ∙ ap figure_told c.waiting_bytes-f.ensures
+returns c = c.from.ensures ∙ ap figure_told c.waiting_bytes.ensures

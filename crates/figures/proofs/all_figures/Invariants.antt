@@ -1,13 +1,8 @@
-use Rattle.std.proofs.Common.{◌≡◌, ◌++◌, ◌-◌, ◌≤◌, length, take, drop}
-use Rattle.figures.specs.Answers.{all_figures}
+use Rattle.std.proofs.Common.{◌≡◌}
+use Rattle.std.proofs.Math.Seq.{paste}
+use Rattle.figures.specs.Answers.{owed_each}
 use Rattle.figures.proofs.all_figures.Given as goal
 
-abbrev pub invariant-loop-k : goal.invariant-loop-k
-invariant-loop-k l = record {
-  within : l.k ≤ l.count;
-  long : length l.out ≡ length l.initial.out;
-  so_far : l.out ≡ take l.k (all_figures l.s l.flow l.sizes) ++ drop l.k l.initial.out;
-}
-
-abbrev pub decreases-loop-k : goal.decreases-loop-k
-decreases-loop-k l = l.count - l.k
+-- behind the first numbers stand what is owed of the sizes so far
+abbrev pub invariant-loop-i : goal.invariant-loop-i
+invariant-loop-i l = l.out ≡ paste l.initial.out 5 (owed_each l.s l.flow l.sizes) l.i

@@ -11,18 +11,18 @@ pub returns-then-not-sound_line-clause-figure_value : goal.returns-then-not-soun
 unfolding asked_answer
 returns-then-not-sound_line-clause-figure_value c = λ figure. rw (sym c.sound_line.ensures ∙ c.if-not-sound_line.true)
 
-pub returns-then-table-flow-clause-figure_value : goal.returns-then-table-flow-clause-figure_value
+pub returns-then-s-flow-clause-figure_value : goal.returns-then-s-flow-clause-figure_value
 unfolding asked_answer
-returns-then-table-flow-clause-figure_value c =
-    λ figure. rw (sym c.sound_line.ensures ∙ c.if-not-sound_line.false, le-leb _ _ c.if-table-flow.true)
+returns-then-s-flow-clause-figure_value c =
+    λ figure. rw (sym c.sound_line.ensures ∙ c.if-not-sound_line.false, le-leb _ _ c.if-s-flow.true)
 
 pub returns-clause-figure_value : goal.returns-clause-figure_value
 unfolding asked_answer
 returns-clause-figure_value c =
-    λ figure. rw (sym c.sound_line.ensures ∙ c.if-not-sound_line.false, lt-leb _ _ c.if-table-flow.false)
+    λ figure. rw (sym c.sound_line.ensures ∙ c.if-not-sound_line.false, lt-leb _ _ c.if-s-flow.false)
 
 pub returns-clause-sound_state : goal.returns-clause-sound_state
 returns-clause-sound_state c =
     let told = sym c.sound_line.ensures ∙ c.if-not-sound_line.false in
     let sound = sound_is _ _ (shaped c.args.s _ c.well_formed.0) told in
-    λ _. (sound, record { ranged = sound_ranged sound; below = c.if-table-flow.false })
+    (sound, record { ranged = sound_ranged sound; below = c.if-s-flow.false })

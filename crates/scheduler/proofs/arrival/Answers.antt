@@ -2,14 +2,15 @@ use Rattle.std.proofs.Common.{not, sym, ap, ◌∙◌}
 use Rattle.drr.proofs.Facts.{sound_is}
 use Rattle.drr.proofs.Shape.{shaped}
 use Rattle.drr.proofs.States.{refuses, answers}
+use Rattle.engine.proofs.Loop.{sound_bookable}
 use Rattle.scheduler.proofs.arrival.Goals as goal
 
-pub returns-then-not-sound_line : goal.returns-then-not-sound_line
-returns-then-not-sound_line c = refuses _ _ _ _ c.sound_line.ensures (ap not c.if-not-sound_line.true)
+pub returns-then-not-sound_in : goal.returns-then-not-sound_in
+returns-then-not-sound_in c = refuses _ _ _ _ c.sound_in.ensures (ap not c.if-not-sound_in.true)
 
 pub returns : goal.returns
-returns c = answers _ _ _ _ c.sound_line.ensures (ap not c.if-not-sound_line.false) _ _ c.arrival_line-a.ensures
+returns c = answers _ _ _ _ c.sound_in.ensures (ap not c.if-not-sound_in.false) _ _ c.book-answer.ensures
 
-pub arrival_line-a-requires : goal.arrival_line-a-requires
-arrival_line-a-requires c =
-    sound_is _ _ (shaped c.args.s _ c.well_formed.0) (sym c.sound_line.ensures ∙ c.if-not-sound_line.false)
+pub book-answer-requires : goal.book-answer-requires
+book-answer-requires c =
+    sound_bookable (sound_is _ _ (shaped c.args.s _ c.well_formed.0) (sym c.sound_in.ensures ∙ c.if-not-sound_in.false))

@@ -1,4 +1,4 @@
-use Rattle.std.proofs.Common.{◌/◌, [], length, arith}
+use Rattle.std.proofs.Common.{rules, ◌/◌, [], length, arith}
 use Rattle.text.specs.Text.{listing_text, listing_within}
 use Rattle.text.proofs.Texts.{unfilled, filled}
 use Rattle.text.proofs.Lines.{beside_most}
@@ -17,10 +17,10 @@ unfolding listing_within
 returns c =
     let l = c.args.list.now in
     let b = c.args.buf.now in
-    let p = c.put_lines in
-    let f = filled (length b / 18) (length l) (listing_text l) b p.new.buf p.result c.if-buf-list.false
-    (omega (arith, beside_most l [])) p.ensures in
-    record { value = f.0; buf_after = f.1 }
+    let p = c.lines in
+    let f = filled (length b / 18) (length l) (listing_text l) b p.new.self.buf.now p.new.self.at c.if-buf-list.false
+    (omega (arith, beside_most l [])) p.ensures.put in
+    record { value = f.0; buf_after = search (rules, f.1) }
 
-pub put_lines-requires : goal.put_lines-requires
-put_lines-requires c = omega (arith, beside_most c.args.list.now [])
+pub lines-requires : goal.lines-requires
+lines-requires c = omega (arith, beside_most c.args.list.now [])

@@ -1,9 +1,12 @@
-use Rattle.std.proofs.Common.{[], ◌∷◌, length, arith}
-use Rattle.std.proofs.Math.ListN.{length-set}
+use Rattle.std.proofs.Common.{rules, ◌≤◌, ◌+◌, ℕ, List, [], ◌∷◌, length, refl, arith}
 use Rattle.text.specs.Text.{fields_text, refusal_text, refusal_within}
-use Rattle.text.proofs.Texts.{one_more, unfilled, filled}
+use Rattle.text.proofs.Texts.{puts_two, room_then, unfilled, filled}
 use Rattle.text.proofs.Lines.{fields_most}
 use Rattle.text.proofs.refusal_text.Goals as goal
+
+-- where there is room
+size : (number place : ℕ) (b : List ℕ) → 44 ≤ length b → 0 + length (refusal_text number place) ≤ length b
+size number place b room = omega (arith, fields_most (number ∷ place ∷ []))
 
 pub returns-then-buf-lt44 : goal.returns-then-buf-lt44
 unfolding refusal_within
@@ -17,12 +20,13 @@ unfolding refusal_within
 returns c =
     let a = c.args in
     let b = a.buf.now in
-    let p = c.put_fields in
-    let fields = a.number ∷ a.place ∷ [] in
-    let f = filled (length b) 44 (refusal_text a.number a.place) b p.new.buf p.result c.if-buf-lt44.false
-    (omega (arith, c.if-buf-lt44.false, fields_most fields)) (one_more b (fields_text fields) _ 0 82 _ p.ensures) in
-    record { value = f.0; buf_after = f.1 }
+    let room = c.if-buf-lt44.false in
+    let p = puts_two c.byte.ensures c.fields.ensures in
+    let f = filled (length b) 44 (refusal_text a.number a.place) b _ _ room (omega (arith, size a.number a.place b room)) p.put in
+    record { value = f.0; buf_after = search (rules, f.1) }
 
-pub put_fields-requires : goal.put_fields-requires
-put_fields-requires c =
-    simp length-set (omega (arith, c.if-buf-lt44.false, fields_most (c.args.number ∷ c.args.place ∷ [])))
+pub fields-requires : goal.fields-requires
+fields-requires c =
+    let a = c.args in
+    room_then (refusal_text a.number a.place) (fields_text (a.number ∷ a.place ∷ [])) refl
+    (size a.number a.place a.buf.now c.if-buf-lt44.false) c.byte.ensures

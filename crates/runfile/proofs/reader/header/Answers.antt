@@ -1,23 +1,23 @@
 -- The tests, one after the other: each that was passed opens the definition by one case.
 use Rattle.std.proofs.Common.{ℕ, ◌≡◌, ◌≤◌, ◌<◌, Bool, true, false, not, cond, ◌||◌, List, length, ltb, eqb, arith, sym, ap, ◌∙◌}
-use borrow.Author.Tests.{ltb-false, lt-ltb, le-ltb, eq-eqb, ne_eqb}
+use mathlib.Core.Logic.{◌⊎◌, ⊎_elim}
+use borrow.Author.Tests.{lt-ltb, le-ltb, eq-eqb, ne_eqb}
 use Rattle.drr.specs.declared.Refusal.{Refusal}
 use Rattle.drr.specs.declared.Refusal.TheVariants.{FlowCount, FileLength, OverheadRange, EventCount, TablePlace}
 use Rattle.drr.specs.Limits.{most_flows, most_overhead, most_events}
-use Rattle.drr.specs.Answers.{Answer, number_of, fine, refused_at}
-use Rattle.drr.proofs.Bools.{or_left}
+use Rattle.drr.specs.Answers.{number_of, fine, refused_at}
 use Rattle.drr.proofs.Papers.{number_some}
 use Rattle.runfile.specs.declared.reader.Layout.{Layout}
 use Rattle.runfile.specs.File.{header_answer, header_layout, header_size, most_bytes, stated_length, overhead_in, flow_count, event_count}
 use Rattle.runfile.specs.File.{flow_offset, event_offset, layout_in, no_tables, tablesb}
+use Rattle.scheduler.proofs.Setups.{count_out, count_in}
 use Rattle.runfile.proofs.Files.{layout_is}
 use Rattle.runfile.proofs.reader.header.Goals as goal
 
 -- a refusal of the header has no tables
-none : (b : List ℕ) (why : Refusal) {a : Answer} {k : Layout} → (a ≡ refused_at (number_of why) 0) × (k ≡ no_tables) →
-    refused_at (number_of why) 0 ≡ header_answer b → (a ≡ header_answer b) × (k ≡ header_layout b)
+none : (b : List ℕ) (why : Refusal) → refused_at (number_of why) 0 ≡ header_answer b → no_tables ≡ header_layout b
 unfolding header_layout
-none b why p e = (p.0 ∙ e, p.1 ∙ rw (← e, number_some why))
+none b why e = rw (← e, number_some why)
 
 -- the tests of a file's bytes, as they come out where they are passed
 module _ (b : List ℕ) where
@@ -27,12 +27,15 @@ module _ (b : List ℕ) where
   abbrev tables_in : Bool
   tables_in = tablesb (flow_count b) (event_count b) (flow_offset b) (event_offset b) (length b)
 
-  long : size_out ≡ false → header_size ≤ length b
-  long t = ltb-false _ _ (or_left (ltb (length b) header_size) (ltb most_bytes (length b)) t)
-
-  refused_1 : size_out ≡ true → refused_at 9 0 ≡ header_answer b
+  refused_1 : (length b < header_size) ⊎ ((header_size ≤ length b) × (most_bytes < length b)) → refused_at 9 0 ≡ header_answer b
   unfolding header_answer
-  refused_1 t = simp t
+  refused_1 out = ⊎_elim
+      (λ short. simp (lt-ltb (length b) header_size short))
+      (λ far. simp (le-ltb (length b) header_size far.0, lt-ltb most_bytes (length b) far.1))
+      out
+
+  size_in : header_size ≤ length b → length b ≤ most_bytes → size_out ≡ false
+  size_in least most = rw (le-ltb (length b) header_size least, le-ltb most_bytes (length b) most)
 
   module _ (t1 : size_out ≡ false) where
     refused_2 : (stated_length b ≡ length b → ⊥) → refused_at 9 0 ≡ header_answer b
@@ -77,51 +80,49 @@ module _ (b : List ℕ) where
                 ap (λ (x : Layout). tablesb x.flows.count x.events.count x.flows.at x.events.at (length b)) (sym is) ∙ sym told ∙ t in
                 left_4 ∙ rw (flows t4, le-ltb most_events (event_count b) (omega (arith, events, t5)), e)
 
-pub returns-then-size : goal.returns-then-size
-returns-then-size c =
-    let n = none _ FileLength c.no_tables.ensures (refused_1 _ c.if-size.true) in
-    record { answer_value = n.0; layout_value = n.1 }
+pub returns-then-size-lt-HEADER_SIZE : goal.returns-then-size-lt-HEADER_SIZE
+returns-then-size-lt-HEADER_SIZE c =
+    let e = refused_1 c.args.file.now c.then-size-lt-HEADER_SIZE.either in
+    record { answer_value = e; layout_value = none _ FileLength e }
 
 pub returns-then-le4-size : goal.returns-then-le4-size
 returns-then-le4-size c =
-    let n = none _ FileLength c.no_tables-then-le4-size.ensures (refused_2 _ c.if-size.false (λ e. c.if-le4-size.true (c.le4.ensures.0 ∙ e))) in
-    record { answer_value = n.0; layout_value = n.1 }
+    let size_2 = size_in _ c.if-size-lt-HEADER_SIZE.false c.if-size-gt-MOST_BYTES.false in
+    let e = refused_2 _ size_2 (λ e. c.if-le4-size.true (c.le4.ensures.0 ∙ e)) in
+    record { answer_value = e; layout_value = none _ FileLength e }
 
 pub returns-then-le4 : goal.returns-then-le4
 returns-then-le4 c =
-    let n = none _ OverheadRange c.no_tables-then-le4.ensures
-    (refused_3 _ c.if-size.false (sym c.le4.ensures.0 ∙ c.if-le4-size.false) (omega (arith, c.le4-2.ensures.0, c.if-le4.true))) in
-    record { answer_value = n.0; layout_value = n.1 }
+    let size_3 = size_in _ c.if-size-lt-HEADER_SIZE.false c.if-size-gt-MOST_BYTES.false in
+    let e = refused_3 _ size_3 (sym c.le4.ensures.0 ∙ c.if-le4-size.false) (omega (arith, c.le4-2.ensures.0, c.if-le4.true)) in
+    record { answer_value = e; layout_value = none _ OverheadRange e }
 
-pub returns-then-flows : goal.returns-then-flows
-returns-then-flows c =
-    let n = none _ FlowCount c.no_tables-then-flows.ensures
-    (refused_4 _ c.if-size.false (sym c.le4.ensures.0 ∙ c.if-le4-size.false) (omega (arith, c.le4-2.ensures.0, c.if-le4.false))
-    _ c.layout_of-layout.ensures.0 c.if-flows.true) in
-    record { answer_value = n.0; layout_value = n.1 }
+pub returns-then-flows-eq0 : goal.returns-then-flows-eq0
+returns-then-flows-eq0 c =
+    let size_4 = size_in _ c.if-size-lt-HEADER_SIZE.false c.if-size-gt-MOST_BYTES.false in
+    let e = refused_4 _ size_4 (sym c.le4.ensures.0 ∙ c.if-le4-size.false) (omega (arith, c.le4-2.ensures.0, c.if-le4.false))
+    _ c.layout_of-layout.ensures.0 (count_out _ c.then-flows-eq0.either) in
+    record { answer_value = e; layout_value = none _ FlowCount e }
 
 pub returns-then-events-gt-MOST_EVENTS : goal.returns-then-events-gt-MOST_EVENTS
 returns-then-events-gt-MOST_EVENTS c =
-    let n = none _ EventCount c.no_tables-then-events-gt-MOST_EVENTS.ensures
-    (refused_5 _ c.if-size.false (sym c.le4.ensures.0 ∙ c.if-le4-size.false) (omega (arith, c.le4-2.ensures.0, c.if-le4.false))
-    _ c.layout_of-layout.ensures.0 c.if-flows.false c.if-events-gt-MOST_EVENTS.true) in
-    record { answer_value = n.0; layout_value = n.1 }
+    let size_5 = size_in _ c.if-size-lt-HEADER_SIZE.false c.if-size-gt-MOST_BYTES.false in
+    let e = refused_5 _ size_5 (sym c.le4.ensures.0 ∙ c.if-le4-size.false) (omega (arith, c.le4-2.ensures.0, c.if-le4.false))
+    _ c.layout_of-layout.ensures.0 (count_in _ c.if-flows-eq0.false c.if-flows-gt-MOST_FLOWS.false) c.if-events-gt-MOST_EVENTS.true in
+    record { answer_value = e; layout_value = none _ EventCount e }
 
 pub returns-then-not-tables_ok : goal.returns-then-not-tables_ok
 returns-then-not-tables_ok c =
-    let n = none _ TablePlace c.no_tables-then-not-tables_ok.ensures
-    (sym (left_6 _ c.if-size.false (sym c.le4.ensures.0 ∙ c.if-le4-size.false) (omega (arith, c.le4-2.ensures.0, c.if-le4.false))
-    _ c.layout_of-layout.ensures.0 c.if-flows.false c.if-events-gt-MOST_EVENTS.false c.tables_ok.ensures c.if-not-tables_ok.true)) in
-    record { answer_value = n.0; layout_value = n.1 }
+    let size_6 = size_in _ c.if-size-lt-HEADER_SIZE.false c.if-size-gt-MOST_BYTES.false in
+    let e = sym (left_6 _ size_6 (sym c.le4.ensures.0 ∙ c.if-le4-size.false) (omega (arith, c.le4-2.ensures.0, c.if-le4.false))
+    _ c.layout_of-layout.ensures.0 (count_in _ c.if-flows-eq0.false c.if-flows-gt-MOST_FLOWS.false)
+    c.if-events-gt-MOST_EVENTS.false c.tables_ok.ensures c.if-not-tables_ok.true) in
+    record { answer_value = e; layout_value = none _ TablePlace e }
 
 pub returns : goal.returns
 returns c =
-    let ok = left_6 _ c.if-size.false (sym c.le4.ensures.0 ∙ c.if-le4-size.false) (omega (arith, c.le4-2.ensures.0, c.if-le4.false))
-    _ c.layout_of-layout.ensures.0 c.if-flows.false c.if-events-gt-MOST_EVENTS.false c.tables_ok.ensures c.if-not-tables_ok.false in
+    let size_7 = size_in _ c.if-size-lt-HEADER_SIZE.false c.if-size-gt-MOST_BYTES.false in
+    let ok = left_6 _ size_7 (sym c.le4.ensures.0 ∙ c.if-le4-size.false) (omega (arith, c.le4-2.ensures.0, c.if-le4.false))
+    _ c.layout_of-layout.ensures.0 (count_in _ c.if-flows-eq0.false c.if-flows-gt-MOST_FLOWS.false)
+    c.if-events-gt-MOST_EVENTS.false c.tables_ok.ensures c.if-not-tables_ok.false in
     record { answer_value = sym ok; layout_value = c.layout_of-layout.ensures.0 ∙ sym (layout_is c.args.file.now ok) }
-
-pub le4-requires : goal.le4-requires
-le4-requires c = omega (arith, long c.args.file.now c.if-size.false)
-
-pub layout_of-layout-requires : goal.layout_of-layout-requires
-layout_of-layout-requires c = long c.args.file.now c.if-size.false

@@ -30,9 +30,9 @@ whole t n =
 
 pub loop-i-preserved : goal.loop-i-preserved
 loop-i-preserved c =
-    (omega arith, put_next c.args.t.now c.args.n c.loop-i.i _ _ _ (omega arith) (omega arith) c.loop-i.invariant.1 c.le4-quantum.ensures.0 c.le4-maximum.ensures.0)
+    put_next c.args.t.now c.args.n c.loop-i.i _ _ _ (omega arith) c.loop-i-test.true c.loop-i.invariant c.le4.ensures.0 c.le4-in-loop-i.ensures.0
 
 pub returns : goal.returns
 returns c =
     let e : c.loop-i.i ≡ c.args.n = omega arith in
-    ap (take c.args.n) (rw e at c.loop-i.invariant.1) ∙ whole c.args.t.now c.args.n
+    ap (take c.args.n) (rw e at c.loop-i.invariant) ∙ whole c.args.t.now c.args.n

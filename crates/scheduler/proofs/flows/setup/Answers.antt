@@ -1,12 +1,8 @@
-use Rattle.std.proofs.Common.{◌∙◌}
-use Rattle.scheduler.proofs.Copied.{copied_turn, copied_done}
+use Rattle.std.proofs.Common.{◌≡◌, ◌∙◌, ap, take, rules, arith}
+use Rattle.scheduler.proofs.Copied.{reply_on, copied_front, first_seventeen}
 use Rattle.scheduler.proofs.flows.setup.Goals as goal
-
-pub loop-c-preserved : goal.loop-c-preserved
-loop-c-preserved c =
-    copied_turn c.args.list.now c.args.terms c.loop-c.c c.put-c.result c.loop-c-test.true c.loop-c.invariant.1 c.put-c.ensures
 
 pub returns : goal.returns
 returns c =
-    c.finished.ensures
-    ∙ copied_done c.args.list.now c.args.terms c.loop-c.c c.loop-c-test.false c.loop-c.invariant.0 c.loop-c.invariant.1
+    let e : c.copy_from_slice.new.self ≡ take c.min-count.result c.args.list.now = search rules in
+    c.setup_of.ensures ∙ ap (reply_on c.args.terms) (copied_front c.min-count.result _ _ c.args.list.now e (omega (arith, c.min-count.ensures))) ∙ first_seventeen c.args.list.now c.args.terms _ c.min-count.ensures

@@ -1,39 +1,38 @@
-use Rattle.std.proofs.Common.{ℕ, ◌+◌, ◌≤◌, sym, ap, subst, length, drop, List, ◌∙◌, arith, length-drop}
-use Rattle.text.proofs.Lines.{to_end}
-use Rattle.textform.specs.declared.Item.{Item}
-use Rattle.textform.specs.Made.{judged}
-use Rattle.textform.specs.Needs.{Gone}
-use Rattle.textform.proofs.Ends.{zeros, Going, start, more_lines, no_more_lines, stopped, ended, goes_on}
+use Rattle.std.proofs.Common.{◌≡◌, sym, ap, ◌∙◌, rules, tests, eqb, ℕ, ◌+◌, Ok, Err}
+use Rattle.textform.specs.Made.{fault}
+use Rattle.std.proofs.lemmas.Iterator.Splits.{YieldsList-from_slice_split}
+use Rattle.textform.proofs.Ends.{start, stopped, goes_on, no_flow, some_flow}
 use Rattle.textform.proofs.make.make_lines.Goals as goal
 
-pub loop-want-init : goal.loop-want-init
-loop-want-init c = start _
+pub loop-words-init : goal.loop-words-init
+loop-words-init c =
+    let s = c.split-words-items.ensures in
+    let is = c.into_iter-words-iterator.ensures.into_iter_gives in
+    start _ _ c.args.text.now _
+    (YieldsList-from_slice_split _ (λ b. eqb b 10) c.args.text.now (ap (λ t. t.rest.now) is ∙ s.rest) (ap (λ t. t.done) is ∙ s.done)
+    (ap (λ t. t.pred) is ∙ s.closure) (λ x r q k. search (rules, tests))).runs
+    c.new-records.ensures
 
-pub returns-in-Stops : goal.returns-in-Stops
-returns-in-Stops c =
-    let p = c.loop-want.invariant in
-    c.faulty.ensures
-    ∙ stopped p c.leading-size.result c.leading-size.ensures.0 c.in-Stops.want
-    (ap (judged p.so_far) (sym c.item_of.ensures) ∙ c.in-Stops.ensures p.so_far p.counted)
+pub loop-words-preserved : goal.loop-words-preserved
+loop-words-preserved c =
+    let p = c.loop-words.invariant in
+    let ok : c.put_line.result ≡ Ok (tt {0}) = search rules in
+    goes_on p c.in-Some.words _ c.in-Some.ensures.steps _ ((rw ok at c.put_line.ensures) p.so_far p.held)
 
-pub returns-then-size-rest : goal.returns-then-size-rest
-returns-then-size-rest c =
-    let p = c.loop-want.invariant in
-    let n = c.leading-size.result in
-    let gone = subst (λ (i : Item). Gone zeros c.in-Goes.next c.put_item-put.new.file (judged p.so_far i)) c.item_of.ensures
-    (c.in-Goes.ensures zeros p.so_far p.counted p.held) in
-    ended p n gone (no_more_lines c.loop-want.rest.now n c.leading-size.ensures.0 (omega (arith, c.if-size-rest.true))) _ c.finished.ensures
+pub returns-in_err-map_err : goal.returns-in_err-map_err
+returns-in_err-map_err c =
+    let p = c.loop-words.invariant in
+    let f = c.in_err-map_err.field-0.0 in
+    let is : c.from_residual.result ≡ Err f = search rules in
+    let bad : c.put_line.result ≡ Err f.want = search rules in
+    let line : f.line ≡ c.loop-words.line + 1 = search rules in
+    rw is (stopped p c.in-Some.words c.next.new.self c.in-Some.ensures.steps f.want ((rw bad at c.put_line.ensures) p.so_far p.held)
+    ∙ ap (λ (k : ℕ). fault k f.want) (sym line))
 
-pub loop-want-preserved : goal.loop-want-preserved
-loop-want-preserved c =
-    let p = c.loop-want.invariant in
-    let n = c.leading-size.result in
-    let rest = c.loop-want.rest.now in
-    let gone = subst (λ (i : Item). Gone zeros c.in-Goes.next c.put_item-put.new.file (judged p.so_far i)) c.item_of.ensures
-    (c.in-Goes.ensures zeros p.so_far p.counted p.held) in
-    let inside : n + 1 ≤ length rest = omega (arith, c.leading-size.ensures.1, c.if-size-rest.false) in
-    let later = drop (n + 1) rest in
-    subst (λ (l : List ℕ). Going c.args.text.now l (c.loop-want.line + 1) c.in-Goes.next c.put_item-put.new.file)
-    (sym (to_end (n + 1) rest))
-    (goes_on p n gone later (more_lines rest n c.leading-size.ensures.0 (omega (arith, inside)))
-    (omega (arith, inside, length-drop (n + 1) rest)))
+pub returns-then-flows-eq0 : goal.returns-then-flows-eq0
+returns-then-flows-eq0 c = no_flow c.loop-words.invariant _ c.in-None.ensures.steps (sym c.flows.ensures ∙ c.if-flows-eq0.true)
+
+pub returns : goal.returns
+returns c =
+    let p = c.loop-words.invariant in
+    (p.so_far, some_flow p _ c.in-None.ensures.steps (λ e. c.if-flows-eq0.false (c.flows.ensures ∙ e)), p.held)

@@ -1,14 +1,15 @@
-use Rattle.std.proofs.Common.{ap, ◌+◌, ◌∙◌}
+use Rattle.std.proofs.Common.{ap, ◌∙◌}
 use Rattle.text.proofs.Lines.{to_end}
-use Rattle.textform.specs.declared.make.Sort.TheVariants.{Blank, Solid}
-use Rattle.textform.specs.Needs.{leading}
-use Rattle.textform.proofs.Scans.{next_word}
+use Rattle.textform.specs.Grammar.{words_of}
+use Rattle.textform.proofs.Scans.{word_next, word_behind}
 use Rattle.textform.proofs.make.next_word.Goals as goal
 
-pub returns : goal.returns
-returns c =
-    let t = c.args.t.now in
-    let at = c.args.at in
-    next_word t at _ _ c.requires
-    (c.leading.ensures.0 ∙ ap (leading Blank) (to_end at t))
-    (c.leading-2.ensures.0 ∙ ap (leading Solid) (to_end (at + c.leading.result) t))
+pub returns-clause-word : goal.returns-clause-word
+returns-clause-word c =
+    c.split_at.ensures.front
+    ∙ word_next c.args.line.now _ c.blanks.result _ (to_end c.blanks.result c.args.line.now) c.blanks.ensures.value c.word_len.ensures.value
+
+pub returns-clause-behind : goal.returns-clause-behind
+returns-clause-behind c =
+    ap words_of c.split_at.ensures.back
+    ∙ word_behind c.args.line.now _ c.blanks.result _ (to_end c.blanks.result c.args.line.now) c.blanks.ensures.value c.word_len.ensures.value

@@ -1,60 +1,45 @@
-use Rattle.std.proofs.Common.{refl, ap, List, [], ℕ, ◌+◌, ◌-◌, ◌≤◌, ◌∙◌, length, get_or, take, drop, arith}
-use Rattle.std.proofs.Math.Seq.{length-sets}
-use Rattle.text.proofs.Texts.{left_next, left_end, put_none, filled}
+use Rattle.std.proofs.Common.{◌≤◌, ◌∙◌, ap, length, take, length-take, ℕ, rules, arith}
+use Rattle.std.specs.List.{zip}
+use Rattle.std.proofs.lemmas.Iterator.{YieldsList-from_slice, YieldsList-from_zip, YieldsList-from_take}
 use Rattle.answers.proofs.Given.{as_text}
-use Rattle.answers.proofs.FlowLines.{part_put}
-use Rattle.textform.specs.Made.{each}
-use Rattle.textform.specs.Shown.{flow_text, records_from, flow_line_room}
-use Rattle.textform.proofs.Records.{flow_most, lines_first, lines_next, lines_last}
+use Rattle.textform.specs.Shown.{flow_text}
+use Rattle.textform.proofs.Records.{flow_most, flow_of_pair, flows_zipped, none_put, line_room, line_put, all_put, behind, behind_length}
 use Rattle.textform.proofs.show.put_flows.Goals as goal
 
--- the line of a flow by the quanta and maxima, and the lines of k flows from f on
-module _ (quanta maxima : List ℕ) where
-  abbrev line : ℕ → List ℕ
-  line f = flow_text (record { quantum = get_or quanta f 0; maximum = get_or maxima f 0 })
+-- a pair's line takes no more than its room
+short : (p : ℕ × ℕ) → length (flow_text (flow_of_pair p)) ≤ 47
+short p = flow_most (flow_of_pair p)
 
-  abbrev lines : ℕ → ℕ → List ℕ
-  lines f k = each flow_text (records_from quanta maxima f k)
-
-  short : (f : ℕ) → length (line f) ≤ flow_line_room
-  short f = flow_most (record { quantum = get_or quanta f 0; maximum = get_or maxima f 0 })
-
-pub loop-flow-init : goal.loop-flow-init
-loop-flow-init c =
+pub loop-quantum-init : goal.loop-quantum-init
+loop-quantum-init c =
     let T = c.args.table in
-    let q = T.quanta in
-    let l = T.maxima in (
-      omega arith,
-      lines_first (line q l) (lines q l) (λ _. refl) (λ _ _. refl) flow_line_room (short q l) T.n c.args.buf.now c.requires.1,
+    let long : (16 ≤ length T.quanta) × (16 ≤ length T.maxima) = search rules in
+    let is = c.into_iter-quantum-iterator.ensures.into_iter_gives in
+    let source = c.take-quantum-items.ensures.source in
+    none_put short _ (take T.n (zip T.quanta T.maxima)) c.args.buf.now _
+    (YieldsList-from_take T.n
+    (YieldsList-from_zip
+    (YieldsList-from_slice T.quanta
+    (ap (λ s. s.iter.a.rest.now) is ∙ ap (λ z. z.a.rest.now) source ∙ ap (λ i. i.rest.now) c.zip.ensures.first ∙ c.iter.ensures.rest))
+    (YieldsList-from_slice T.maxima
+    (ap (λ s. s.iter.b.rest.now) is ∙ ap (λ z. z.b.rest.now) source ∙ c.zip.ensures.second.0)))
+    (ap (λ s. s.n) is ∙ c.take-quantum-items.ensures.count)).runs
+    (flows_zipped T.quanta T.maxima T.n (omega (arith, long)) (omega (arith, long)))
+    (omega (arith, length-take T.n (zip T.quanta T.maxima), c.requires.1))
+
+pub put_record-at-requires : goal.put_record-at-requires
+put_record-at-requires c =
+    omega (
+      arith,
+      line_room short c.loop-quantum.invariant (c.in-Some.quantum, c.in-Some.maximum) c.next.new.self c.in-Some.ensures.steps,
+      behind_length c.loop-quantum.buf c.loop-quantum.at,
     )
 
-pub loop-flow-preserved : goal.loop-flow-preserved
-loop-flow-preserved c =
-    let T = c.args.table in
-    let q = T.quanta in
-    let l = T.maxima in
-    let f = c.loop-flow.flow in
-    let b = c.loop-flow.buf in
-    let at = c.loop-flow.at in
-    let left = c.loop-flow.invariant.1 in
-    let fits : at + flow_line_room ≤ length b = omega (arith, c.loop-flow.invariant.0, left.size, c.loop-flow-test.true, c.requires.1) in
-    let put = part_put b at (line q l f) _ _ (omega (arith, fits, short q l f))
-    (as_text _ _ (take (length b - at) (drop at b)) _ _
-    (λ j. flow_text (record { quantum = c.u64_of_u32-quantum.ensures.0 j; maximum = c.u64_of_u32-maximum.ensures.0 j }))
-    c.put_flow-at.ensures) in (
-      omega (arith, c.loop-flow.invariant.0, short q l f, put.1),
-      left_next left (line q l f) _
-          (lines_next (line q l) (lines q l) (λ _. refl) (λ _ _. refl) flow_line_room (short q l) T.n f c.loop-flow-test.true)
-          _ _ put (ap length put.0 ∙ length-sets b at (line q l f)),
-    )
+pub loop-quantum-preserved : goal.loop-quantum-preserved
+loop-quantum-preserved c =
+    line_put short c.loop-quantum.invariant (c.in-Some.quantum, c.in-Some.maximum) c.next.new.self c.in-Some.ensures.steps _ _
+    (as_text _ _ (behind c.loop-quantum.buf c.loop-quantum.at) _ _
+    (λ i. flow_text (record { quantum = c.from.ensures i; maximum = c.from-in-loop-quantum.ensures i })) c.put_record-at.ensures)
 
 pub returns : goal.returns
-returns c =
-    let T = c.args.table in
-    let q = T.quanta in
-    let l = T.maxima in
-    let left = c.loop-flow.invariant.1 in
-    let none = lines_last (line q l) (lines q l) (λ _. refl) (λ _ _. refl) flow_line_room (short q l) T.n c.loop-flow.flow
-    c.loop-flow-test.false in
-    let put = left_end left [] none _ _ (put_none _ _) in
-    filled 0 0 (lines q l 0 T.n) c.args.buf.now _ _ (omega arith) (omega (arith, left.fits)) put
+returns c = all_put short c.loop-quantum.invariant c.next.new.self c.in-None.ensures.steps

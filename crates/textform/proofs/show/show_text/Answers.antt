@@ -1,10 +1,8 @@
 use Rattle.std.proofs.Common.{◌≡◌, sym, refl, ap, List, ℕ, ◌+◌, ◌*◌, ◌≤◌, ◌∙◌, length, arith}
 use Rattle.std.proofs.Math.Seq.{length-sets}
 use Rattle.drr.specs.declared.Table.{Table}
-use Rattle.drr.specs.declared.Verdict.{Verdict}
-use Rattle.drr.specs.declared.Verdict.TheVariants.{Fine}
 use Rattle.drr.specs.Limits.{most_flows, most_events}
-use Rattle.drr.specs.Answers.{Answer, verdict_paper}
+use Rattle.drr.specs.Answers.{Answer, fine}
 use Rattle.runfile.specs.declared.reader.Part.{Part}
 use Rattle.runfile.specs.File.{Laid, flow_count, file_answer, file_table, file_events, events_from}
 use Rattle.runfile.proofs.Files.{file_laid}
@@ -25,23 +23,22 @@ returns-then-buf-lt-SHOWN_ROOM c =
     let g = given _ _ buf _ _ (shown_short c.args.file.now (length buf) c.if-buf-lt-SHOWN_ROOM.true) (refl, refl) in
     record { value = g.0; buf_after = g.1.0; prefix_len = g.1.1 }
 
-pub returns-in-Refused : goal.returns-in-Refused
-returns-in-Refused c =
+pub returns-in-Err : goal.returns-in-Err
+returns-in-Err c =
     let file = c.args.file.now in
     let buf = c.args.buf.now in
     let room : shown_room ≤ length buf = c.if-buf-lt-SHOWN_ROOM.false in
-    let e = sym (ap verdict_paper c.in-Refused.is) ∙ c.read-read.ensures.answer_value in
+    let fault = c.in-Err.fault in
     let g = given _ _ buf _ _
-    (refusal_fits _ _ _ (omega (arith, room)) ∙ shown_refusal file c.in-Refused.why _ e ∙ shown_fits file (length buf) room)
+    (refusal_fits _ _ _ (omega (arith, room)) ∙ shown_refusal file fault.why fault.place c.in-Err.ensures.answer_value ∙ shown_fits file (length buf) room)
     c.refusal_line.ensures in
     record { value = g.0; buf_after = g.1.0; prefix_len = g.1.1 }
 
 -- a file without fault, its table and where its events are
 module _
-    (file buf : List ℕ) (v : Verdict) (T : Table) (p : Part) (room : shown_room ≤ length buf) (fine : v ≡ Fine)
-    (answer : verdict_paper v ≡ file_answer file) (held : (T ≡ file_table file) × (p ≡ file_events file)) where
+    (file buf : List ℕ) (T : Table) (p : Part) (room : shown_room ≤ length buf) (answer : fine ≡ file_answer file) (held : (T ≡ file_table file) × (p ≡ file_events file)) where
   ok : (file_answer file).refusal ≡ 0
-  ok = ap (λ (a : Answer). a.refusal) (sym answer ∙ ap verdict_paper fine)
+  ok = ap (λ (a : Answer). a.refusal) (sym answer)
 
   lies : Laid file
   lies = file_laid file ok
@@ -92,33 +89,28 @@ module _
         given _ _ buf _ _ (shown_lines file ok T p held.0 held.1 ∙ shown_fits file (length buf) room)
         (both_filled table_lines event_lines buf begun part size more both_fit put second)
 
-pub returns : goal.returns
-returns c =
-    let r = c.read-read in
-    let g = whole c.args.file.now c.args.buf.now r.result.answer r.result.table r.result.events c.if-buf-lt-SHOWN_ROOM.false
-    c.in_default.is r.ensures.answer_value r.ensures.table_value _ _ c.put_table-size.ensures _ _ c.put_events.ensures in
+pub returns-in-Ok : goal.returns-in-Ok
+returns-in-Ok c =
+    let r = c.in-Ok in
+    let g = whole c.args.file.now c.args.buf.now r.read.table r.read.events c.if-buf-lt-SHOWN_ROOM.false r.ensures.answer_value r.ensures.contents_value _ _ c.put_table-size.ensures _ _ c.put_events.ensures in
     record { value = g.0; buf_after = g.1.0; prefix_len = g.1.1 }
 
 pub put_table-size-requires : goal.put_table-size-requires
 put_table-size-requires c =
-    let r = c.read-read in
-    table_in_bounds c.args.file.now c.args.buf.now r.result.answer r.result.table r.result.events c.if-buf-lt-SHOWN_ROOM.false
-    c.in_default.is r.ensures.answer_value r.ensures.table_value
+    let r = c.in-Ok in
+    table_in_bounds c.args.file.now c.args.buf.now r.read.table r.read.events c.if-buf-lt-SHOWN_ROOM.false r.ensures.answer_value r.ensures.contents_value
 
 pub slice_bounds-put_events-count : goal.slice_bounds-put_events-count
 slice_bounds-put_events-count c =
-    let r = c.read-read in
-    starts c.args.file.now c.args.buf.now r.result.answer r.result.table r.result.events c.if-buf-lt-SHOWN_ROOM.false
-    c.in_default.is r.ensures.answer_value r.ensures.table_value
+    let r = c.in-Ok in
+    starts c.args.file.now c.args.buf.now r.read.table r.read.events c.if-buf-lt-SHOWN_ROOM.false r.ensures.answer_value r.ensures.contents_value
 
 pub slice_bounds-put_events-start : goal.slice_bounds-put_events-start
 slice_bounds-put_events-start c =
-    let r = c.read-read in
-    starts c.args.file.now c.args.buf.now r.result.answer r.result.table r.result.events c.if-buf-lt-SHOWN_ROOM.false
-    c.in_default.is r.ensures.answer_value r.ensures.table_value
+    let r = c.in-Ok in
+    starts c.args.file.now c.args.buf.now r.read.table r.read.events c.if-buf-lt-SHOWN_ROOM.false r.ensures.answer_value r.ensures.contents_value
 
 pub put_events-requires : goal.put_events-requires
 put_events-requires c =
-    let r = c.read-read in
-    events_in_bounds c.args.file.now c.args.buf.now r.result.answer r.result.table r.result.events c.if-buf-lt-SHOWN_ROOM.false
-    c.in_default.is r.ensures.answer_value r.ensures.table_value _ _ c.put_table-size.ensures
+    let r = c.in-Ok in
+    events_in_bounds c.args.file.now c.args.buf.now r.read.table r.read.events c.if-buf-lt-SHOWN_ROOM.false r.ensures.answer_value r.ensures.contents_value _ _ c.put_table-size.ensures
