@@ -5,6 +5,8 @@ use Rattle.drr.proofs.refusal_number.Statement as refusal_number
 use Rattle.drr.proofs.refusal_number.Met as refusal_number_met
 use Rattle.drr.proofs.common_of.Statement as common_of
 use Rattle.drr.proofs.common_of.Met as common_of_met
+use Rattle.drr.proofs.RefusedFromRefusal.from.Statement as refused_from
+use Rattle.drr.proofs.RefusedFromRefusal.from.Met as refused_from_met
 use Rattle.widths.proofs.usize_of_u8.Statement as usize_of_u8
 use Rattle.widths.proofs.usize_of_u8.Met as usize_of_u8_met
 use Rattle.widths.proofs.usize_of_u32.Statement as usize_of_u32
@@ -128,6 +130,9 @@ refusal_number_meets = refusal_number_met.met
 
 pub common_of_meets : {M : Type 1} → common_of.statement M
 common_of_meets = common_of_met.met
+
+pub refused_from_meets : {M : Type 1} → refused_from.statement M
+refused_from_meets = refused_from_met.met
 
 pub usize_of_u8_meets : {M : Type 1} → usize_of_u8.statement M
 usize_of_u8_meets = usize_of_u8_met.met

@@ -29,6 +29,7 @@ use Rattle.exports.specs.Told.{setup_told, arrival_told, pick_told, figure_told,
 use Rattle.exports.proofs.Apart as told
 use Rattle.drr.proofs.refusal_number.Reads as of_refusal_number
 use Rattle.drr.proofs.common_of.Reads as of_common
+use Rattle.drr.proofs.RefusedFromRefusal.from.Reads as of_refused_from
 use Rattle.widths.proofs.usize_of_u8.Reads as of_usize_of_u8
 use Rattle.widths.proofs.usize_of_u32.Reads as of_usize_of_u32
 use Rattle.widths.proofs.u64_of_u32.Reads as of_u64_of_u32
@@ -95,6 +96,9 @@ one_refusal_number κs a r t x y p q = p ∙ sym (q)
 
 pub one_common : (κs : _) (a : _) (r t : Common) (x y : _) → of_common.Post κs a r x → of_common.Post κs a t y → r ≡ t
 one_common κs a r t x y p q = p ∙ sym (q)
+
+pub one_refused_from : (κs : _) (a : _) (r t : Refused) (x y : _) → of_refused_from.Post κs a r x → of_refused_from.Post κs a t y → r ≡ t
+one_refused_from κs a r t x y p q = p ∙ sym q
 
 pub one_usize_of_u8 : (κs : _) (a : _) (r t : ℕ) (x y : _) → of_usize_of_u8.Post κs a r x → of_usize_of_u8.Post κs a t y → r ≡ t
 one_usize_of_u8 κs a r t x y p q = p.0 ∙ sym q.0
