@@ -29,7 +29,8 @@ pub fn refusal_line(why: Refusal, place: usize, buf: &mut [u8]) -> usize
     ensures { let text = refusal_within (number_of why) place (length buf.old) in
         (result ≡ length text) × (buf.new ≡ overlaid text buf.old) }
 {
-    text::refusal_text(u64::from(drr::refusal_number(why)), place as u64, buf)
+    let number = widths::u64_of_u32(drr::refusal_number(why));
+    text::refusal_text(number, widths::u64_of_usize(place), buf)
 }
 
 // The line of an overhead at the start of a lent buffer, and how many bytes it has; nothing, and 0, where

@@ -15,7 +15,7 @@ ghost use Rattle.drr.specs.Pick.{after, first_of};
 ghost use Rattle.drr.specs.Computed.{sending, look as look_of, pick_of};
 ghost use Rattle.engine.specs.Needs.{Bookable, Sendable};
 
-use drr::{Line, PickAnswer, Refusal, Table};
+use drr::{Common, Line, PickAnswer, Refusal, Table};
 
 // What a packet of this length is charged. Public for a run, whose line is busy for as many ticks.
 pub fn charge_of(table: &Table, length: u16) -> u32
@@ -147,10 +147,11 @@ pub fn book(table: &Table, line: &mut Line, flow: usize, length: u32) -> Result<
 fn head_ok(table: &Table, line: &Line) -> bool
     ensures { result ≡ headb table.now (line_in line.now) }
 {
-    if table.n == 0 {
-        table.overhead == 0 && line.place == 0 && !line.opened
+    let Common { n, overhead } = drr::common_of(*table);
+    if n == 0 {
+        overhead == 0 && line.place == 0 && !line.opened
     } else {
-        table.n <= drr::MOST_FLOWS && table.overhead <= drr::MOST_OVERHEAD && line.place < table.n
+        n <= drr::MOST_FLOWS && overhead <= drr::MOST_OVERHEAD && line.place < n
     }
 }
 

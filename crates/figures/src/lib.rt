@@ -84,7 +84,7 @@ pub fn value_of(f: Result<u64, Refusal>) -> u64
 fn cell_at(cells: &[u32], flow: usize) -> u64
     ensures { result ≡ get_or cells.now flow 0 }
 {
-    cells.get(flow).map_or(0, |cell| u64::from(*cell))
+    cells.get(flow).map_or(0, |cell| widths::u64_of_u32(*cell))
 }
 
 // Flow, quantum, maximum, C and wait.

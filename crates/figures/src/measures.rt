@@ -45,12 +45,12 @@ impl Measures {
         requires { Known table flow }
         ensures { AreOf result table flow }
     {
-        let overhead = u64::from(table.overhead);
+        let overhead = widths::u64_of_u32(table.overhead);
         Measures {
             quantum: u64::from(table.quanta[flow]),
             charge: u64::from(table.maxima[flow]) + overhead,
             quanta: sum_of(&table.quanta[..table.n]),
-            charges: sum_of(&table.maxima[..table.n]) + table.n as u64 * overhead,
+            charges: sum_of(&table.maxima[..table.n]) + widths::u64_of_usize(table.n) * overhead,
         }
     }
 

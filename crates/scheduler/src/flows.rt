@@ -26,7 +26,7 @@ pub fn fresh(table: Table) -> State
             deficits: [0u32; 16],
             counts: [0u8; 16],
             sums: [0u32; 16],
-            place: table.n.saturating_sub(1),
+            place: drr::common_of(table).n.saturating_sub(1),
             opened: false,
             rows: [row; 16],
         },

@@ -1,15 +1,19 @@
--- A word read digit by digit.
+-- A word read digit by digit, and two words compared.
 use mathlib.Core.Path.{◌≡◌, refl, sym, ap, ◌∙◌}
+use mathlib.Core.Bool.{Bool}
 use mathlib.Core.List.{List, [], ◌∷◌, ◌++◌, append-nil, append_assoc}
 use Prim.Native.Nat.{ℕ, zero, suc, ◌+◌, ◌*◌, ◌-◌, ◌/◌, ◌%◌, ◌^◌, ◌≤◌, ◌<◌}
 use native.Mathlib.Nat.{mod-lt, pow-succ'}
 use native.Mathlib.Omega.{arith}
 use borrow.Author.Tests.{le-leb}
 use Rattle.std.proofs.lemmas.List.{drop_more}
+use Rattle.std.proofs.lemmas.Bool.Decides.{same_from_decides}
+use Rattle.std.proofs.lemmas.Slice.Eq.{bytes_eq-Decides}
 use lib.ListN.{length, get_or, drop}
 use Rattle.std.specs.Prelude.{Some}
+use Rattle.std.specs.Bool.{Decides}
 use Rattle.io.specs.Digits.{last_digits, hex_digit_ascii}
-use Rattle.text.specs.Text.{most_number, places, decimal, read_on, word_of}
+use Rattle.text.specs.Text.{most_number, places, decimal, read_on, word_of, same}
 use Rattle.text.proofs.Texts.{glyph_low, decimal_length, places_fewest}
 
 pub word_start : (w : List ℕ) → (length w ≡ 0 → ⊥) → read_on 0 (drop 0 w) ≡ word_of w
@@ -46,3 +50,8 @@ decimal_read n most =
     sym (word_start (decimal n) some)
     ∙ ap (read_on 0) (sym (append-nil (decimal n)))
     ∙ read_digits (places n) n [] (places_fewest n (omega arith)).1 most
+
+-- ---- two words are the same
+-- whatever tells whether they are equal as lists
+pub told : (r : Bool) (a b : List ℕ) → Decides r (a ≡ b) → r ≡ same a b
+told r a b d = same_from_decides r (same a b) d (bytes_eq-Decides a b)

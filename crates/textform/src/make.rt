@@ -142,13 +142,22 @@ fn item_in(line: &[u8]) -> Result<Item, Want>
 fn item_of(line: &[u8]) -> Result<Item, Want>
     ensures { result ≡ item_of line.now }
 {
-    item_in(&line[..comment_at(line)])
+    let said = &line[..comment_at(line)];
+    // an empty line or a comment is done with before words are looked for
+    if said.is_empty() {
+        return Ok(Item::Nothing);
+    }
+    item_in(said)
 }
 
 fn newlines(text: &[u8]) -> usize
     ensures { (result ≡ newlines text.now) × (result ≤ length text.now) }
 {
-    text.iter().filter(|b| **b == b'\n').count()
+    let mut n = 0;
+    for byte in text {
+        n += usize::from(*byte == b'\n');
+    }
+    n
 }
 
 // What a line says joins the records, or is not what was expected.

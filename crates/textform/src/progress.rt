@@ -10,7 +10,7 @@ const HEADER_SIZE: usize = 20;
 
 // The file, with the records behind the place of its header; the overhead if it was said, how many flows
 // and events there are, and the tick of the last event.
-#[derive(Drop)]
+#[derive(Clone, Copy)]
 pub struct Progress {
     file: [u8; 8340],
     overhead: Option<u32>,

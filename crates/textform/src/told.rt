@@ -38,5 +38,10 @@ pub fn fault_text(fault: Fault, buf: &mut [u8]) -> usize
         overlaid (fault_within fault.line fault.want (length buf.old)) buf.old }
     ensures prefix_len { IsPrefixLen result buf.new }
 {
-    text::around_text(b"line ", fault.line as u64, expected(fault.want), buf)
+    text::around_text(
+        b"line ",
+        widths::u64_of_usize(fault.line),
+        expected(fault.want),
+        buf,
+    )
 }

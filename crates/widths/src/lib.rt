@@ -1,5 +1,4 @@
-// A number in a wider type, for code that names the types. The crates here write `u64::from(x)` or `x as usize` where
-// they need it.
+// A number in a wider type, for code that names the types. Elsewhere the crates write `u64::from(x)` or `x as usize`.
 #![tactic(auto)]
 
 ghost use Rattle.std.specs.Prelude.{◌≡◌, ◌≤◌};

@@ -20,7 +20,7 @@ fn line(told: &[u8], numbers: &[u64]) {
 
 fn arrive(s: State, flow: usize, length: u32) -> State {
     let arrived = scheduler::arrival(s, flow, length);
-    let (flow, length) = (flow as u64, u64::from(length));
+    let (flow, length) = (widths::u64_of_usize(flow), widths::u64_of_u32(length));
     match arrived.answer {
         Ok(()) => line(b"A", &[flow, length]),
         Err(why) => {
